@@ -1,4 +1,4 @@
-//! Attacks and checks, seen from the square that is attacked.
+//! Attacks, checks and pins, each found by looking from the attacked square.
 
 ghost use Rattle.std.specs.Prelude.{◌≡◌, ◌≢◌, ◌↔◌, ◌<◌, ◌≤◌, ◌^◌, ℕ, true, false, not, None, IfSome, IsNone};
 ghost use Rattle.shogi_core.specs.Attack.{HasNoSniper, is_attacked, is_open_king, in_check, is_sniper, is_sniping, cell_steps, cell_slides_back, is_step_from, is_step_among, slider_attacks_along, slider_attacks, FindsOccupied, FindsPiece, TellsAttack, TellsSliderAttack, TellsSliderAttackAlong, HasPinned, HasPinAlong, OthersAreUnpinned, HasNoStep, StaysIfAttacked, StaysInCheck};
@@ -30,7 +30,8 @@ fn is_open_king(board: &Board, color: Color, square: Square) -> bool
     is_king(board.at(square), color) && board.is_attacked(color.opponent(), square)
 }
 
-/// The squares of pieces of the side that slide and are on a line with the square.
+/// The snipers of the square: sliders of the side that are aligned with it, whatever stands
+/// between.
 #[tactic(auto, using(crate::proofs::SeenLaws::snipers))]
 fn sniper_squares(board: &Board, by: Color, from: Square) -> Squares
     ensures squares { HasBits result.bits (is_sniper board.now by from) }
@@ -38,7 +39,7 @@ fn sniper_squares(board: &Board, by: Color, from: Square) -> Squares
     board.own(by) & board.sliders() & line_mask(from)
 }
 
-/// Whether a step or a jump of what stands on the one square leads to the other.
+/// Whether what stands on `from` attacks `to` by a step or a jump.
 fn steps_to(cell: Option<Piece>, from: Square, to: Square) -> bool
     ensures { result ≡ cell_steps cell from to }
 {
@@ -48,7 +49,8 @@ fn steps_to(cell: Option<Piece>, from: Square, to: Square) -> bool
     }
 }
 
-/// A piece on one of the squares of which a step or a jump leads to the square, if there is one.
+/// The square of a piece on one of the squares `among` that attacks the square by a step or a jump,
+/// or `None` if none does.
 #[tactic(auto, using(crate::proofs::SliderAttacks::stepping))]
 fn first_stepper(board: &Board, among: Squares, square: Square) -> Option<Square>
     ensures if_none { IsNone result → HasNoStep board.now among.bits square }
@@ -64,7 +66,7 @@ fn first_stepper(board: &Board, among: Squares, square: Square) -> Option<Square
     None
 }
 
-/// Whether a step or a jump of a piece on one of the squares leads to the square.
+/// Whether a piece on one of the squares `among` attacks the square by a step or a jump.
 fn is_stepped_on_among(board: &Board, among: Squares, square: Square) -> bool
     ensures { result ≡ some_below 81 (is_step_among board.now among.bits square) }
 {
@@ -74,14 +76,15 @@ fn is_stepped_on_among(board: &Board, among: Squares, square: Square) -> bool
     }
 }
 
-/// Whether a step or a jump of a piece of the side leads to the square.
+/// Whether a piece of the side attacks the square by a step or a jump.
 fn is_stepped_on(board: &Board, by: Color, square: Square) -> bool
     ensures { result ≡ some_below 81 (is_step_from board.now by square) }
 {
     is_stepped_on_among(board, board.own(by), square)
 }
 
-/// Whether what stands there slides against the direction.
+/// Whether the piece in the cell slides against the direction: towards the square that the
+/// direction leads away from.
 #[tactic(auto, using(crate::proofs::SliderAttacks::backing))]
 fn slides_back(cell: Option<Piece>, direction: Direction) -> bool
     ensures { result ≡ cell_slides_back (direction_at direction) cell }
@@ -99,7 +102,7 @@ fn slides_back(cell: Option<Piece>, direction: Direction) -> bool
     }
 }
 
-/// Whether one of the snipers of the square slides to it against the direction.
+/// Whether one of the snipers in the direction slides back to the square.
 #[inline(never)]
 #[tactic(auto, using(crate::proofs::SliderAttacks::stepping))]
 fn slider_attacks_on(
@@ -123,14 +126,15 @@ fn slider_attacks_on(
     false
 }
 
-/// Whether one of the snipers stands in the direction, whatever is between.
+/// Whether a sniper is on the line from the square in the direction, whatever stands between.
 fn has_sniper(direction: Direction, square: Square, snipers: Squares) -> bool
     ensures { result ≡ false ↔ HasNoSniper direction square snipers.bits }
 {
     ray(direction, square).bits & snipers.bits != 0
 }
 
-/// A direction against which one of the snipers of the square slides to it, if there is one.
+/// A direction in which one of the snipers stands and slides back to the square, or `None` if none
+/// does.
 fn attacking_direction(
     board: &Board,
     by: Color,
@@ -154,7 +158,7 @@ fn attacking_direction(
     None
 }
 
-/// Whether one of the snipers of the square slides to it.
+/// Whether one of the snipers slides to the square.
 fn slider_attacks(board: &Board, by: Color, square: Square, snipers: Squares) -> bool
     requires snipers { HasBits snipers.bits (is_sniper board.now by square) }
     ensures { result ≡ slider_attacks board.now by square }
@@ -165,7 +169,8 @@ fn slider_attacks(board: &Board, by: Color, square: Square, snipers: Squares) ->
     }
 }
 
-/// The nearest of some squares of a line in the direction, as seen from where it begins.
+/// The nearest of some squares on one line, as seen from its start: the lowest index if indexes
+/// rise in the direction, else the highest.
 fn nearest(places: u128, direction: Direction) -> Square
     requires some { places ≢ 0 }
     requires fits { places < 2 ^ 81 }
@@ -181,8 +186,8 @@ fn nearest(places: u128, direction: Direction) -> Square
     }
 }
 
-/// The first of the squares in the direction, if there is one: the first piece on each board whose
-/// pieces stand on these squares.
+/// The first of the occupied squares in the direction, or `None` if there is none. It holds the
+/// first piece on every board with this occupancy.
 #[tactic(auto, using(crate::proofs::Nearest::first_pieces))]
 fn first_occupied(occupied: Squares, direction: Direction, from: Square) -> Option<Square>
     ensures range { IfSome result (λ n. n < 81) }
@@ -196,7 +201,7 @@ fn first_occupied(occupied: Squares, direction: Direction, from: Square) -> Opti
     Some(nearest(pieces, direction))
 }
 
-/// The square of the first piece in the direction, if there is one.
+/// The square of the first piece in the direction, or `None` if the line is empty.
 fn first_piece(board: &Board, direction: Direction, from: Square) -> Option<Square>
     ensures range { IfSome result (λ n. n < 81) }
     ensures first { FindsPiece board.now direction from result }
@@ -204,8 +209,8 @@ fn first_piece(board: &Board, direction: Direction, from: Square) -> Option<Squa
     first_occupied(board.occupied(), direction, from)
 }
 
-/// Whether one of the snipers of the square slides to it against the direction, where pieces stand
-/// on the occupied squares.
+/// Whether one of the snipers in the direction would slide back to the square on a board with this
+/// occupancy.
 #[inline(never)]
 fn slider_attacks_past(
     board: &Board,
@@ -227,8 +232,7 @@ fn slider_attacks_past(
     slides_back(board.at(first), direction)
 }
 
-/// Whether one of the snipers of the square slides to it, where pieces stand on the occupied
-/// squares.
+/// Whether one of the snipers would slide to the square on a board with this occupancy.
 fn slider_attacks_among(board: &Board, square: Square, snipers: Squares, occupied: Squares) -> bool
     ensures { TellsSliderAttack board.now square snipers.bits occupied.bits result }
 {
@@ -244,8 +248,8 @@ fn slider_attacks_among(board: &Board, square: Square, snipers: Squares, occupie
     false
 }
 
-/// Whether one of the snipers of the square slides to it against the direction; where none does,
-/// the mask gets the piece of the side, if there is one, that stands alone before one of them.
+/// Whether one of the snipers in the direction slides back to the square. If none does, adds to
+/// `pinned` the piece of the side, if any, that alone shields the square from a sniper there.
 #[inline(never)]
 fn slider_check_or_pin(
     board: &Board,
@@ -280,8 +284,8 @@ fn slider_check_or_pin(
     false
 }
 
-/// The squares of pieces of the side that stand alone between the square and one of its snipers, or
-/// `None` where one of those slides to the square.
+/// The squares of pieces of the side that alone shield the square from a sniper, or `None` if a
+/// sniper already slides to the square.
 fn pinned_to(board: &Board, side: Color, square: Square, snipers: Squares) -> Option<Squares>
     requires snipers { HasBits snipers.bits (is_sniper board.now (opponent_of side) square) }
     ensures shot { IsNone result → slider_attacks board.now (opponent_of side) square ≡ true }
@@ -301,7 +305,8 @@ fn pinned_to(board: &Board, side: Color, square: Square, snipers: Squares) -> Op
     Some(pinned)
 }
 
-/// The same of the snipers of the square, or `None` where the square is attacked.
+/// The squares of pieces of the side that alone shield the square from a sniper, or `None` if the
+/// square is already attacked.
 #[tactic(auto, using(crate::proofs::SliderAttacks::attacking, crate::proofs::Pins::unpinned))]
 fn pinned_pieces(board: &Board, side: Color, square: Square) -> Option<Squares>
     ensures attacked { IsNone result → is_attacked board.now (opponent_of side) square ≡ true }
@@ -320,8 +325,8 @@ fn pinned_pieces(board: &Board, side: Color, square: Square) -> Option<Squares>
     pinned_to(board, side, square, snipers)
 }
 
-/// The squares of which something has to come to stand on one where that ends an attack by the side:
-/// that of one attacker, and those on its way.
+/// The squares on which a piece can end an attack by the side on the square: those of one attacker
+/// and of the way from it. Empty if there is no attack.
 fn evasion_squares_on(board: &Board, by: Color, square: Square) -> Squares
     ensures stays { StaysIfAttacked result.bits board.now by square }
 {
@@ -336,8 +341,8 @@ fn evasion_squares_on(board: &Board, by: Color, square: Square) -> Squares
 }
 
 impl Board {
-    /// The squares on open lines with the square: on its file, its rank or a diagonal, with no
-    /// piece between.
+    /// The squares on open lines with the square: on its file, rank or a diagonal, with no piece
+    /// between.
     pub fn open_lines(&self, square: Square) -> Squares
         ensures squares { HasBits result.bits (are_lined self.now square) }
     {
@@ -345,8 +350,8 @@ impl Board {
             | four_slides(self, Direction::up_left(), square)
     }
 
-    /// The squares from which a piece could reach the square: those on open lines with it, and a
-    /// knight's jump away.
+    /// The squares from which a piece of some kind could attack the square: those on open lines
+    /// with it and those a knight's jump away.
     #[tactic(auto, using(crate::proofs::SeenLaws::seen))]
     pub fn queen_and_knight_view(&self, square: Square) -> Squares
         ensures squares { HasBits result.bits (is_seen self.now square) }
@@ -354,7 +359,7 @@ impl Board {
         self.open_lines(square) | jump_squares(square)
     }
 
-    /// Whether a piece of the side reaches the square, whoever stands there.
+    /// Whether a piece of the side attacks the square, whatever stands on it.
     #[tactic(auto, using(crate::proofs::SliderAttacks::attacking))]
     pub fn is_attacked(&self, by: Color, square: Square) -> bool
         ensures { result ≡ is_attacked self.now by square }
@@ -370,8 +375,8 @@ impl Board {
         slider_attacks(self, by, square, snipers)
     }
 
-    /// Whether a piece on one of these squares reaches the square where the occupied squares are those
-    /// that are not empty: whether it is attacked on another board, whose attackers stand here too.
+    /// Whether a piece on one of the squares `among` would attack the square on a board with this
+    /// occupancy. Answers for another board, if its attackers are `among` and stand here too.
     #[inline(always)]
     pub fn is_attacked_among(&self, square: Square, among: Squares, occupied: Squares) -> bool
         ensures { TellsAttack self.now among.bits occupied.bits square result }
@@ -387,7 +392,7 @@ impl Board {
         slider_attacks_among(self, square, snipers, occupied)
     }
 
-    /// Whether a king of the side is attacked; a side without a king is never in check.
+    /// Whether a king of the side is attacked. A side without a king is never in check.
     #[tactic(auto, using(crate::proofs::SeenLaws::open_kings), unfolding(crate::specs::Attack::in_check))]
     pub fn in_check(&self, side: Color) -> bool
         ensures { result ≡ in_check self.now side }
@@ -401,8 +406,9 @@ impl Board {
         false
     }
 
-    /// Where the side is in check: squares of which a move that moves no king has to end on one to
-    /// answer it. They are that of one piece that gives check, and those on its way.
+    /// If the side is in check: the squares to which a move must go, unless it moves a king, to
+    /// answer the check. They are that of one checking piece and those on its way. Empty if there
+    /// is no check.
     #[tactic(auto, using(crate::proofs::SeenLaws::open_kings), unfolding(crate::specs::Attack::in_check))]
     pub fn evasion_squares(&self, side: Color) -> Squares
         ensures stays { in_check self.now side ≡ true → StaysInCheck result.bits self.now side }
@@ -416,8 +422,8 @@ impl Board {
         Squares::none()
     }
 
-    /// The squares of pieces of the other side that slide and are on a line with a king of the
-    /// side, whatever stands between.
+    /// The snipers of the side's kings: sliders of the opponent aligned with a king, whatever
+    /// stands between.
     #[tactic(auto, using(crate::proofs::Snipers::sniping))]
     pub fn snipers(&self, side: Color) -> Squares
         ensures squares { HasBits result.bits (is_sniping self.now side) }
@@ -430,8 +436,8 @@ impl Board {
         found
     }
 
-    /// The squares of pieces of the side that may be pinned: once a piece of the side on any other
-    /// square is lifted off, there is still no check. `None` where there is one already.
+    /// The squares of all pieces of the side that may be pinned: lifting off a piece of the side
+    /// from any other square gives no check. `None` if the side is already in check.
     #[tactic(auto, using(crate::proofs::SeenLaws::open_kings, crate::proofs::Pins::pins))]
     pub fn pinned(&self, side: Color) -> Option<Squares>
         ensures checked { IsNone result → in_check self.now side ≡ true }

@@ -1,16 +1,16 @@
-//! Sets of squares as the bits of a number: bit n is the square of index n.
+//! Sets of squares as bits of a number: bit n stands for the square of index n.
 
 ghost use Rattle.std.specs.Prelude.{◌≡◌, ◌≢◌, ◌<◌, ◌≤◌, ◌^◌, ◌%◌, ◌==◌, ◌&&◌, ◌||◌, not, true, false, ℕ};
 ghost use Rattle.shogi_core.specs.Below.{some_below};
 ghost use Rattle.shogi_core.specs.Bits.{HasBits, has_bit};
 
-/// Every square of the board.
+/// The mask of all 81 squares.
 pub const ALL_SQUARES: u128 = 2417851639229258349412351;
 
-// What divides the lower 64 bits from those above.
+// 2^64, which divides the lower 64 bits from the upper ones.
 const HALF: u128 = 18446744073709551616;
 
-/// Its lower 64 bits.
+/// The lower 64 bits of the mask.
 #[tactic(auto, using(crate::proofs::BitLaws::low_half))]
 pub fn low_half(mask: u128) -> u64
     ensures { (i : ℕ) → i < 64 → has_bit result i ≡ has_bit mask i }
@@ -18,7 +18,7 @@ pub fn low_half(mask: u128) -> u64
     (mask % HALF) as u64
 }
 
-/// The half of the mask in which bit n stands: its lower 64 bits, or those above.
+/// The half of the mask, lower or upper 64 bits, that has bit n.
 #[tactic(auto, using(crate::proofs::BitLaws::halves))]
 fn half_of(mask: u128, n: usize) -> u64
     requires { n < 128 }
@@ -40,7 +40,7 @@ pub fn has(mask: u128, n: usize) -> bool
     (half_of(mask, n) >> (n % 64)) & 1 == 1
 }
 
-/// With bit n set.
+/// The mask with bit n set.
 #[tactic(auto, using(crate::proofs::BitLaws::bit_tests))]
 pub fn with(mask: u128, n: usize) -> u128
     requires { n < 128 }
@@ -49,7 +49,7 @@ pub fn with(mask: u128, n: usize) -> u128
     mask | (1 << n)
 }
 
-/// With bit n clear.
+/// The mask with bit n clear.
 #[tactic(auto, using(crate::proofs::BitLaws::bit_tests))]
 pub fn without(mask: u128, n: usize) -> u128
     requires { n < 128 }
@@ -59,7 +59,7 @@ pub fn without(mask: u128, n: usize) -> u128
     mask & !bit
 }
 
-/// Without bit n, which is set.
+/// Clears bit n, which must be set; the result is less than the mask.
 #[tactic(auto, using(crate::proofs::SeenLaws::cleared))]
 pub fn cleared(mask: u128, n: usize) -> u128
     requires n { n < 128 }
@@ -70,7 +70,7 @@ pub fn cleared(mask: u128, n: usize) -> u128
     mask & !(1 << n)
 }
 
-/// The place of the lowest set bit.
+/// The index of the lowest set bit of a mask that is not empty.
 #[tactic(auto, using(crate::proofs::LineBits::lowest_bit))]
 pub fn lowest(mask: u128) -> usize
     requires some { mask ≢ 0 }
@@ -82,7 +82,7 @@ pub fn lowest(mask: u128) -> usize
     mask.trailing_zeros() as usize
 }
 
-/// The place of the highest set bit.
+/// The index of the highest set bit of a mask that is not empty.
 #[tactic(auto, using(crate::proofs::LineBits::highest_bit))]
 pub fn highest(mask: u128) -> usize
     requires some { mask ≢ 0 }
@@ -94,7 +94,7 @@ pub fn highest(mask: u128) -> usize
     127 - mask.leading_zeros() as usize
 }
 
-/// The bits up to the lowest that is set, that one included; all bits where none is set.
+/// The bits up to the lowest set bit, which is included; all bits if none is set.
 #[tactic(auto, using(crate::proofs::LowBits::low_bits))]
 pub fn up_to_lowest(mask: u128) -> u128
     ensures { HasBits result (λ n. not (some_below n (has_bit mask))) }
@@ -102,7 +102,7 @@ pub fn up_to_lowest(mask: u128) -> u128
     mask ^ mask.wrapping_sub(1)
 }
 
-/// Without bit n, its lowest; only the clauses need to know which that is.
+/// Clears the lowest set bit, which must be bit n. Only the clauses use `n`.
 #[tactic(auto, using(crate::proofs::LowBits::low_bits))]
 pub fn without_lowest(mask: u128, n: usize) -> u128
     requires fits { mask < 2 ^ 81 }
@@ -115,7 +115,7 @@ pub fn without_lowest(mask: u128, n: usize) -> u128
     mask & (mask - 1)
 }
 
-/// Those bits of the mask that are above bit n.
+/// The bits of the mask above bit n.
 pub fn bits_above(mask: u128, n: usize) -> u128
     requires n { n < 81 }
     requires fits { mask < 2 ^ 81 }
@@ -126,7 +126,7 @@ pub fn bits_above(mask: u128, n: usize) -> u128
     mask & !up_to_lowest(with(0, n))
 }
 
-/// Those bits of the mask that are not below bit n.
+/// The bits of the mask from bit n on.
 pub fn bits_from(mask: u128, n: usize) -> u128
     requires n { n ≤ 81 }
     requires fits { mask < 2 ^ 81 }

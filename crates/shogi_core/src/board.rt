@@ -1,4 +1,4 @@
-//! The board: what stands on each square.
+//! Boards: what stands on each square, and masks that follow from it.
 
 ghost use Rattle.std.specs.Prelude.{◌≡◌, ◌<◌, ◌^◌, ℕ, length, slice_set, cond, ◌==◌, not, is_none};
 ghost use Rattle.shogi_core.specs.Bits.{HasBits, has_bit};
@@ -19,7 +19,8 @@ use crate::start::{
 use crate::words::{board_words, cell_number, with_digit};
 use std::marker::Model;
 
-/// A board, seen as its 81 cells by index. It need not be part of a valid position.
+/// A board, seen as its 81 cells by index. It may be part of no valid position. Masks and words
+/// follow from the cells, so only these are compared and hashed.
 #[derive(Clone, Copy, Debug)]
 #[derive_where(PartialEq, Eq, Hash)]
 pub struct Board {
@@ -55,7 +56,7 @@ impl Model for Board {
     ghost inverse_ok = { λ b h. ap (λ black. record { cells = b.cells; black = black; white = own_of b.cells White; kings = kings_of b.cells; sliders = sliders_of b.cells; words = board_words b.cells }) (sym h.1) ∙ (ap (λ white. record { cells = b.cells; black = b.black; white = white; kings = kings_of b.cells; sliders = sliders_of b.cells; words = board_words b.cells }) (sym h.2) ∙ (ap (λ kings. record { cells = b.cells; black = b.black; white = b.white; kings = kings; sliders = sliders_of b.cells; words = board_words b.cells }) (sym h.3) ∙ (ap (λ sliders. record { cells = b.cells; black = b.black; white = b.white; kings = b.kings; sliders = sliders; words = board_words b.cells }) (sym h.4) ∙ ap (λ words. record { cells = b.cells; black = b.black; white = b.white; kings = b.kings; sliders = b.sliders; words = words }) (sym h.5)))) };
 }
 
-/// Whether a king of either side stands there.
+/// Whether a king of either side stands in the cell.
 fn is_any_king(cell: Option<Piece>) -> bool
     ensures { result ≡ is_any_king cell }
 {
@@ -65,7 +66,7 @@ fn is_any_king(cell: Option<Piece>) -> bool
     }
 }
 
-/// The squares on which there stands what passes the test.
+/// The mask of the squares whose cells pass the test.
 fn passing_squares<F: Fn(Option<Piece>) -> bool>(cells: &[Option<Piece>; 81], test: F) -> u128
     requires { F.IsAlwaysCallable test }
     ensures { HasPassing (F.post test) cells.now result }
@@ -79,7 +80,7 @@ fn passing_squares<F: Fn(Option<Piece>) -> bool>(cells: &[Option<Piece>; 81], te
     mask
 }
 
-/// The mask with the bit of the square set or clear.
+/// The mask with the bit of the square set if `on`, else clear.
 #[tactic(auto, using(crate::proofs::MaskLaws::marks))]
 fn marked(mask: u128, square: Square, on: bool) -> u128
     ensures { (n : ℕ) → has_bit result n ≡ cond (n == square) on (has_bit mask n) }
@@ -92,7 +93,7 @@ fn marked(mask: u128, square: Square, on: bool) -> u128
 }
 
 impl Board {
-    /// The board of these cells.
+    /// The board with these cells.
     pub fn of(cells: [Option<Piece>; 81]) -> Board
         ensures { result ≡ cells }
     {
@@ -106,7 +107,7 @@ impl Board {
         }
     }
 
-    /// The board of the opening position, whose masks and words are known.
+    /// The opening board, with masks and words from constants.
     pub fn start() -> Board
         ensures { result ≡ start_cells }
     {
@@ -120,14 +121,14 @@ impl Board {
         }
     }
 
-    /// The 81 cells by index.
+    /// The 81 cells, by index.
     pub fn cells(&self) -> &[Option<Piece>; 81]
         ensures { result.now ≡ self.now }
     {
         &self.cells
     }
 
-    /// The squares on which pieces of the side stand.
+    /// The squares with a piece of the side.
     #[tactic(auto, using(crate::proofs::MaskLaws::own_bits))]
     pub fn own(&self, color: Color) -> Squares
         ensures mask { result.bits ≡ own_of self.now color }
@@ -139,7 +140,7 @@ impl Board {
         }
     }
 
-    /// The squares on which a piece stands.
+    /// The squares with a piece of either side.
     #[tactic(auto, using(crate::proofs::LineBits::occupied_bits))]
     pub fn occupied(&self) -> Squares
         ensures { HasBits result.bits (λ n. not (is_none (piece_at self.now n))) }
@@ -157,7 +158,7 @@ impl Board {
         }
     }
 
-    /// The squares on which kings of the side stand.
+    /// The squares with a king of the side.
     #[tactic(auto, using(crate::proofs::MaskLaws::king_bits))]
     pub fn kings(&self, color: Color) -> Squares
         ensures squares { HasBits result.bits (λ n. is_king color (piece_at self.now n)) }
@@ -167,7 +168,7 @@ impl Board {
         }
     }
 
-    /// The squares on which pieces stand that slide, of either side.
+    /// The squares with a slider of either side.
     #[tactic(auto, using(crate::proofs::MaskLaws::own_bits))]
     pub fn sliders(&self) -> Squares
         ensures squares { HasBits result.bits (λ n. is_slider (piece_at self.now n)) }
@@ -175,22 +176,22 @@ impl Board {
         Squares { bits: self.sliders }
     }
 
-    /// What stands on all squares, packed: each word is the number in base 32 whose digits are
-    /// those of twelve squares, and of nine in the last.
+    /// All cells, packed: each word is a number in base 32 with a digit for each of twelve squares,
+    /// nine in the last word.
     pub fn words(&self) -> &[u64; 7]
         ensures { result.now ≡ board_words self.now }
     {
         &self.words
     }
 
-    /// What stands on the square.
+    /// The piece on the square, or `None` if the square is empty.
     pub fn at(&self, square: Square) -> Option<Piece>
         ensures { result ≡ piece_at self.now square }
     {
         self.cells[square.index()]
     }
 
-    /// Puts this on the square, and leaves all else as it is.
+    /// Puts the piece on the square, or clears it with `None`; the rest of the board stays.
     #[tactic(auto, using(crate::proofs::MaskLaws::own_bits))]
     pub fn set(&mut self, square: Square, piece: Option<Piece>)
         ensures { self.new ≡ slice_set self.old square piece }
@@ -210,7 +211,7 @@ impl Board {
         );
     }
 
-    /// The board with this on the square, and all else as it was.
+    /// A copy of the board with the piece put on the square, or the square cleared with `None`.
     pub fn put(self, square: Square, piece: Option<Piece>) -> Board
         ensures { result ≡ slice_set self square piece }
     {

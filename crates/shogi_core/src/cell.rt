@@ -1,4 +1,4 @@
-//! What stands on a square.
+//! Tests of a cell: what stands on a square, or `None`.
 
 ghost use Rattle.std.specs.Prelude.{◌≡◌};
 ghost use Rattle.shogi_core.specs.Cell.{is_piece_of, is_king, is_slider, is_pawn, is_immobile};
@@ -6,7 +6,7 @@ ghost use Rattle.shogi_core.specs.Pieces.{is_of_kind};
 
 use crate::piece::{Color, Kind, Piece};
 
-/// Whether a piece of the side stands there.
+/// Whether a piece of the side stands in the cell.
 pub fn is_piece_of(cell: Option<Piece>, color: Color) -> bool
     ensures { result ≡ is_piece_of color cell }
 {
@@ -16,7 +16,7 @@ pub fn is_piece_of(cell: Option<Piece>, color: Color) -> bool
     }
 }
 
-/// Whether the king of the side stands there.
+/// Whether a king of the side stands in the cell.
 pub fn is_king(cell: Option<Piece>, color: Color) -> bool
     ensures { result ≡ is_king color cell }
 {
@@ -26,7 +26,7 @@ pub fn is_king(cell: Option<Piece>, color: Color) -> bool
     }
 }
 
-/// Whether a piece stands there that slides, of either side.
+/// Whether a slider of either side stands in the cell.
 pub fn is_slider(cell: Option<Piece>) -> bool
     ensures { result ≡ is_slider cell }
 {
@@ -36,7 +36,7 @@ pub fn is_slider(cell: Option<Piece>) -> bool
     }
 }
 
-/// Whether an unpromoted pawn of the side stands there.
+/// Whether an unpromoted pawn of the side stands in the cell.
 pub fn is_pawn(cell: Option<Piece>, color: Color) -> bool
     ensures { result ≡ is_pawn color cell }
 {
@@ -46,7 +46,7 @@ pub fn is_pawn(cell: Option<Piece>, color: Color) -> bool
     }
 }
 
-/// Whether a piece of the kind stands there, promoted or not.
+/// Whether a piece of the kind stands in the cell, promoted or not.
 pub fn is_of_kind(cell: Option<Piece>, kind: Kind) -> bool
     ensures { result ≡ is_of_kind kind cell }
 {
@@ -59,8 +59,8 @@ pub fn is_of_kind(cell: Option<Piece>, kind: Kind) -> bool
     }
 }
 
-/// Whether a piece stands there, on the square of this index, that could never move again
-/// (JSA playing rules: an unpromoted pawn or lance on its last rank, a knight on its last two).
+/// Whether what stands in the cell could never move again from the square of this index (JSA
+/// playing rules: an unpromoted pawn or lance on its last rank, a knight on its last two).
 pub fn is_immobile(cell: Option<Piece>, square: usize) -> bool
     ensures { result ≡ is_immobile square cell }
 {

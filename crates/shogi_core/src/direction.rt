@@ -1,18 +1,18 @@
-//! Directions of lines.
+//! Directions of lines on the board.
 
 ghost use Rattle.std.specs.Prelude.{◌≡◌, ◌<◌, ◌+◌, ◌%◌, IfSome, IsNone};
 
 use std::marker::Model;
 
-// The numbers of some directions.
+// The numbers of three of the directions.
 pub const DOWN: usize = 0;
 
 pub const UP_LEFT: usize = 1;
 
 pub const UP: usize = 4;
 
-/// A direction of lines, seen as its number. As Black sees the board, 0 is down, and the others are
-/// up-left, left, down-left, up, down-right, right and up-right: indexes rise in the first four.
+/// A direction of lines, seen as its number. As Black sees the board, 0 to 7 are down, up-left,
+/// left, down-left, up, down-right, right and up-right: indexes rise in the first four.
 #[derive(Clone, Copy, Debug, PartialEq, Eq)]
 pub struct Direction {
     number: usize,
@@ -30,7 +30,7 @@ impl Model for Direction {
     ghost inverse = { λ n. record { number = n } };
 }
 
-/// The directions that are still to come, seen as the number of the next one; 8 if none is left.
+/// The directions still to come, seen as the number of the next one, or 8 if none is left.
 #[derive(Drop)]
 pub struct DirectionIter {
     next: usize,
@@ -47,7 +47,7 @@ impl Model for DirectionIter {
 }
 
 impl Direction {
-    /// Down.
+    /// The direction down, number 0.
     #[inline(always)]
     pub fn down() -> Direction
         ensures { result ≡ 0 }
@@ -55,7 +55,7 @@ impl Direction {
         Direction { number: DOWN }
     }
 
-    /// Up and to the left.
+    /// The direction up and left, number 1.
     #[inline(always)]
     pub fn up_left() -> Direction
         ensures { result ≡ 1 }
@@ -63,7 +63,7 @@ impl Direction {
         Direction { number: UP_LEFT }
     }
 
-    /// Up.
+    /// The direction up, number 4.
     #[inline(always)]
     pub fn up() -> Direction
         ensures { result ≡ 4 }
@@ -71,7 +71,7 @@ impl Direction {
         Direction { number: UP }
     }
 
-    /// Its number, from 0 to 7.
+    /// The number of the direction, from 0 to 7.
     #[inline(always)]
     pub fn number(self) -> usize
         ensures number { result ≡ self }
@@ -80,7 +80,7 @@ impl Direction {
         self.number
     }
 
-    /// Gives proofs that the number is below 8, and does nothing.
+    /// Tells the prover that the number is below 8; does nothing at run time.
     #[inline(always)]
     pub fn reveal_invariant(&self)
         ensures { self.now < 8 }
@@ -108,7 +108,7 @@ impl Direction {
         }
     }
 
-    /// All directions, by number.
+    /// All eight directions, by number.
     #[inline(always)]
     pub fn all() -> DirectionIter
         ensures { result ≡ 0 }
@@ -118,7 +118,7 @@ impl Direction {
 }
 
 impl DirectionIter {
-    /// The next direction, if one is left.
+    /// The next direction, or `None` if none is left.
     #[inline(always)]
     pub fn next(&mut self) -> Option<Direction>
         ensures none { IsNone result → self.old ≡ 8 }

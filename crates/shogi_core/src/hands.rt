@@ -1,4 +1,4 @@
-//! What each side holds.
+//! Pieces in hand.
 
 ghost use Rattle.std.specs.Prelude.{◌≡◌, ◌<◌, slice_set, replicate};
 ghost use Rattle.shogi_core.specs.Position.{count_in_hand, place_of};
@@ -6,7 +6,7 @@ ghost use Rattle.shogi_core.specs.Position.{count_in_hand, place_of};
 use crate::piece::{Color, Kind};
 use std::marker::Model;
 
-/// The counts that the sides hold, seen as the list of Black's of each kind and then White's.
+/// The pieces in hand of both sides, seen as 14 counts: Black's by kind number, then White's.
 #[derive(Clone, Copy, Debug, PartialEq, Eq, Hash)]
 pub struct Hands {
     counts: [u8; 14],
@@ -25,21 +25,21 @@ impl Model for Hands {
 }
 
 impl Hands {
-    /// Nothing held by either side.
+    /// Two empty hands.
     pub fn none() -> Hands
         ensures { result ≡ replicate 14 0 }
     {
         Hands { counts: [0; 14] }
     }
 
-    /// How many pieces of the kind the side holds.
+    /// The number of pieces of the kind in the side's hand.
     pub fn count(self, color: Color, kind: Kind) -> u8
         ensures { result ≡ count_in_hand self color kind }
     {
         self.counts[place(color, kind)]
     }
 
-    /// The same hands with `n` pieces of the kind held by the side.
+    /// A copy of the hands with `n` pieces of the kind in the side's hand.
     pub fn with(self, color: Color, kind: Kind, n: u8) -> Hands
         ensures { result ≡ slice_set self (place_of color kind) n }
     {
@@ -49,7 +49,7 @@ impl Hands {
     }
 }
 
-/// The place of a count in the list.
+/// The index of a count in the list.
 fn place(color: Color, kind: Kind) -> usize
     ensures place { result ≡ place_of color kind }
     ensures range { result < 14 }

@@ -1,10 +1,10 @@
 //! Squares, pieces, hands, moves and valid positions of shogi.
 //!
-//! A `Board` is 81 cells, and beside them masks (numbers whose bit n is that of the square of index
-//! n) of what stands where; a `Position` is a board with hands and a side to move that has none of
-//! five faults (`validity`). Where a piece goes is in `targets`, and who attacks a square, what is
-//! pinned and what sees it in `attack`. Both read `steps`, `rays` and `lines`, whose tables stand
-//! in files of their own. The rules themselves are in `specs/`: `Movement` first, then `Attack` and
+//! A `Board` is 81 cells and masks that follow from them: numbers whose bit n stands for the square
+//! of index n. A `Position` is a board with hands and a side to move that has none of five faults
+//! (`validity`). `targets` says where a piece goes; `attack` says who attacks a square, what is
+//! pinned and what sees it. Both read `steps`, `rays` and `lines`, whose tables are in files of
+//! their own. The rules themselves are in `specs/`: begin with `Movement`, then `Attack` and
 //! `Validity`.
 #![tactic(auto)]
 

@@ -1,4 +1,4 @@
-//! Slides, and the lines that they are on.
+//! Slides and the lines they follow.
 
 ghost use Rattle.std.specs.Prelude.{◌<◌, ◌≤◌};
 ghost use Rattle.shogi_core.specs.Bits.{HasBits};
@@ -14,7 +14,7 @@ use crate::rays::ray;
 use crate::square::Square;
 use crate::squares::Squares;
 
-/// The squares on lines with the square, whatever stands between.
+/// The squares aligned with the square on a file, rank or diagonal, whatever stands between.
 pub fn line_mask(from: Square) -> Squares
     ensures squares { HasBits result.bits (are_aligned from) }
 {
@@ -23,7 +23,7 @@ pub fn line_mask(from: Square) -> Squares
     }
 }
 
-/// The squares that a slide reaches in a direction in which indexes rise.
+/// The squares that a slide reaches in a direction with rising indexes.
 #[tactic(auto, using(crate::proofs::LineBits::king_line_mask))]
 pub fn rising_squares(board: &Board, direction: Direction, from: Square) -> Squares
     requires direction { direction < 4 }
@@ -35,7 +35,7 @@ pub fn rising_squares(board: &Board, direction: Direction, from: Square) -> Squa
     }
 }
 
-/// The squares that a slide reaches in a direction in which indexes fall.
+/// The squares that a slide reaches in a direction with falling indexes.
 #[tactic(auto, using(crate::proofs::LineBits::king_line_mask))]
 pub fn falling_squares(board: &Board, direction: Direction, from: Square) -> Squares
     requires direction { 4 ≤ direction }
@@ -43,14 +43,14 @@ pub fn falling_squares(board: &Board, direction: Direction, from: Square) -> Squ
 {
     direction.reveal_invariant();
     let line = ray(direction, from).bits;
-    // No such line leads on from the square of index 0.
+    // Bit 0 stands in if the line is empty: no line with falling indexes leads on from square 0.
     let first = highest(line & board.occupied().bits | 1);
     Squares {
         bits: line & !ray(direction, Square::of_index(first)).bits,
     }
 }
 
-/// The squares that a slide in the direction reaches.
+/// The squares that a slide in the direction reaches: up to the first piece, which is included.
 pub fn slide_squares(board: &Board, direction: Direction, from: Square) -> Squares
     ensures squares { HasBits result.bits (slides board.now (direction_at direction) from) }
 {

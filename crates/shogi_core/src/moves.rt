@@ -1,4 +1,4 @@
-//! Moves.
+//! Moves and their codes.
 
 ghost use Rattle.std.specs.Prelude.{◌≡◌, ◌<◌, ◌≤◌, ◌+◌, ◌↔◌, IsNone, IfSome, Some};
 ghost use Rattle.shogi_core.specs.declared.moves.TheConstants.{MOVE_CODE_COUNT};
@@ -8,16 +8,16 @@ ghost use Rattle.shogi_core.specs.Moves.{end_of};
 use crate::piece::Kind;
 use crate::square::Square;
 
-/// How many moves there are: their codes are the numbers below it (own choice).
+/// The number of all moves; codes are the numbers below it (own choice).
 pub const MOVE_CODE_COUNT: u16 = 13689;
 
-/// The least code of a drop; those below it are codes of moves on the board.
+/// The lowest code of a drop; lower codes are of moves on the board.
 pub const FIRST_DROP: u16 = 13122;
 
-/// How many codes the moves from one square of the board have.
+/// The number of codes for moves from one square of the board.
 pub const SQUARE_CODES: u16 = 162;
 
-/// A move of a piece on the board, or a drop of a held one. It need not be legal anywhere.
+/// A move on the board or a drop. It need not be legal in any position.
 #[derive(Clone, Copy, Debug, PartialEq, Eq, Hash)]
 pub enum Move {
     Board {
@@ -31,7 +31,7 @@ pub enum Move {
     },
 }
 
-/// Some move, for tables that are not filled yet.
+/// Any move, to fill tables with at first.
 impl Default for Move {
     fn default() -> Move {
         Move::Board {
@@ -42,7 +42,7 @@ impl Default for Move {
     }
 }
 
-/// The kind of a number from 0 to 6.
+/// The kind with this number, from 0 to 6.
 fn kind_at(n: usize) -> Kind
     ensures { result ≡ kind_at n }
 {
@@ -58,7 +58,7 @@ fn kind_at(n: usize) -> Kind
 }
 
 impl Move {
-    /// The square where it ends.
+    /// The destination of the move.
     #[inline(always)]
     pub fn to(&self) -> Square
         ensures { result ≡ end_of self.now }
@@ -69,7 +69,8 @@ impl Move {
         }
     }
 
-    /// Its place in the order of all moves, from 0 to 13,688 (own choice).
+    /// The code of the move, from 0 to 13,688 (own choice): moves on the board by origin,
+    /// destination and promotion, then drops by kind and destination.
     #[tactic(auto, using(crate::proofs::CodesBack::codes_back))]
     pub fn code(self) -> u16
         ensures code { result ≡ code_of self }
@@ -85,7 +86,7 @@ impl Move {
         }
     }
 
-    /// The first code above that of the move.
+    /// The code of the move plus one: the first code above it.
     pub fn code_above(&self) -> u16
         ensures code { result ≡ code_of self.now + 1 }
         ensures range { result ≤ MOVE_CODE_COUNT }
@@ -93,7 +94,7 @@ impl Move {
         self.code() + 1
     }
 
-    /// Gives proofs that the code is that of this move and no other, and does nothing.
+    /// Tells the prover that the code belongs to this move alone; does nothing at run time.
     #[tactic(auto, using(crate::proofs::CodesBack::codes_back))]
     pub fn reveal_invariant(&self)
         ensures range { code_of self.now < MOVE_CODE_COUNT }
@@ -108,7 +109,7 @@ impl Move {
         }
     }
 
-    /// The move of a code, or `None` from 13,689 up.
+    /// The move with this code, or `None` if the code is 13,689 or more.
     pub fn of_code(code: u16) -> Option<Move>
         ensures value { result ≡ move_of code }
         ensures if_none { IsNone result ↔ (MOVE_CODE_COUNT ≤ code) }

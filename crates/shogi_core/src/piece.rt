@@ -1,17 +1,17 @@
-//! Pieces: a colour and a role.
+//! Sides, kinds, roles and pieces.
 
 ghost use Rattle.std.specs.Prelude.{◌≡◌, ◌<◌};
 ghost use Rattle.shogi_core.specs.Pieces.{opponent_of, kind_number, set_size, kind_of, is_same_color, role_of, promoted, IsKindAfter};
 ghost use Rattle.shogi_core.specs.Cell.{is_king_role, is_pawn_role, is_sliding_role, is_immobile_role};
 
-/// A side.
+/// A side: Black (sente) or White (gote).
 #[derive(Clone, Copy, Debug, PartialEq, Eq, Hash)]
 pub enum Color {
     Black,
     White,
 }
 
-/// A kind of piece that can be held in hand.
+/// A kind of piece in hand.
 #[derive(Clone, Copy, Debug, PartialEq, Eq, Hash)]
 pub enum Kind {
     Pawn,
@@ -23,7 +23,7 @@ pub enum Kind {
     Rook,
 }
 
-/// What a piece on the board is.
+/// The role of a piece on the board, promoted or not.
 #[derive(Clone, Copy, Debug, PartialEq, Eq, Hash)]
 pub enum Role {
     King,
@@ -42,14 +42,14 @@ pub enum Role {
     Dragon,
 }
 
-/// A piece on the board.
+/// A piece on the board: its side and its role.
 #[derive(Clone, Copy, Debug, PartialEq, Eq, Hash)]
 pub struct Piece {
     pub color: Color,
     pub role: Role,
 }
 
-/// The kinds in the order of their numbers.
+/// All kinds, by number.
 pub const KINDS: [Kind; 7] = [
     Kind::Pawn,
     Kind::Lance,
@@ -71,7 +71,7 @@ impl Color {
         }
     }
 
-    /// Whether the two are one side.
+    /// Whether both are the same side.
     pub fn is_same(self, other: Color) -> bool
         ensures { result ≡ is_same_color self other }
     {
@@ -84,7 +84,7 @@ impl Color {
 }
 
 impl Kind {
-    /// Its place among the kinds, from 0 to 6: pawn, lance, knight, silver, gold, bishop, rook.
+    /// The number of the kind, from 0 to 6: pawn, lance, knight, silver, gold, bishop, rook.
     pub fn number(self) -> usize
         ensures number { result ≡ kind_number self }
         ensures range { result < 7 }
@@ -100,7 +100,7 @@ impl Kind {
         }
     }
 
-    /// The kind after this one in the order of their numbers.
+    /// The kind with the next number, or `None` after the rook.
     pub fn next(self) -> Option<Kind>
         ensures { IsKindAfter self result }
     {
@@ -115,7 +115,7 @@ impl Kind {
         }
     }
 
-    /// How many pieces of the kind one set has, promoted ones counted.
+    /// The number of pieces of the kind in one set, promoted ones included.
     pub fn set_size(self) -> usize
         ensures { result ≡ set_size self }
     {
@@ -132,7 +132,7 @@ impl Kind {
 }
 
 impl Role {
-    /// What a piece of the role is in hand, or `None` for a king.
+    /// The kind that a captured piece of the role becomes in hand, or `None` for a king.
     pub fn kind(self) -> Option<Kind>
         ensures { result ≡ kind_of self }
     {
@@ -148,21 +148,21 @@ impl Role {
         }
     }
 
-    /// Whether it is the king.
+    /// Whether the role is the king.
     pub fn is_king(self) -> bool
         ensures { result ≡ is_king_role self }
     {
         matches!(self, Role::King)
     }
 
-    /// Whether it is an unpromoted pawn.
+    /// Whether the role is the unpromoted pawn.
     pub fn is_pawn(self) -> bool
         ensures { result ≡ is_pawn_role self }
     {
         matches!(self, Role::Pawn)
     }
 
-    /// Whether it slides.
+    /// Whether the role slides: lance, bishop, rook, horse or dragon.
     pub fn is_sliding(self) -> bool
         ensures { result ≡ is_sliding_role self }
     {
@@ -172,7 +172,7 @@ impl Role {
         )
     }
 
-    /// Whether a piece of the role and side could never move again from the rank, counted from 0.
+    /// Whether a piece of the side and role could never move again from the rank, counted from 0.
     pub fn is_immobile(self, color: Color, rank: u8) -> bool
         ensures { result ≡ is_immobile_role color self rank }
     {
@@ -185,7 +185,7 @@ impl Role {
         }
     }
 
-    /// What it becomes by promotion; king, gold and promoted roles stay as they are.
+    /// The role after promotion; king, gold and promoted roles stay as they are.
     pub fn promoted(self) -> Role
         ensures { result ≡ promoted self }
     {
@@ -201,7 +201,7 @@ impl Role {
     }
 }
 
-/// The unpromoted role, as a piece of the kind is dropped.
+/// The unpromoted role in which a piece of the kind is dropped.
 impl From<Kind> for Role {
     ghost from_gives = { λ kind role. role ≡ role_of kind };
 

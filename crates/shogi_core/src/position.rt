@@ -1,4 +1,4 @@
-//! Positions: what stands on the board, what each side holds, and whose turn it is.
+//! Valid positions.
 
 ghost use Rattle.std.specs.Prelude.{◌≡◌, ◌↔◌, true, IsTrue, Ok, Err, None, Some, MatchOption, IfSome, IsNone};
 ghost use Rattle.shogi_core.specs.Cell.{is_king, HasNoKing, HasNoOtherKing};
@@ -16,7 +16,7 @@ use crate::square::Square;
 use crate::validity::{PositionFault, fault};
 use std::marker::Model;
 
-/// A valid position: what stands on the board, what both sides hold, and whose turn it is.
+/// A valid position: what stands on the board, the pieces in hand, and the side to move.
 #[derive(Clone, Copy, Debug, PartialEq, Eq, Hash)]
 pub struct Position {
     board: Board,
@@ -38,8 +38,8 @@ impl Model for Position {
 }
 
 impl Position {
-    /// The position of these parts, or the first of their faults in the order of `PositionFault`.
-    /// A side may have no king (own choice).
+    /// The position with these parts, or its first fault in the order of `PositionFault`. A side
+    /// may have no king (own choice).
     pub fn new(
         cells: [Option<Piece>; 81],
         hands: Hands,
@@ -65,7 +65,7 @@ impl Position {
         Position::of_valid(Board::start(), Hands::none(), Color::Black)
     }
 
-    /// The position of parts that have none of the faults.
+    /// The position with these parts, which must have no fault.
     pub fn of_valid(board: Board, hands: Hands, side: Color) -> Position
         requires { fault_of (record { cells = board; hands = hands; side = side }) ≡ None }
         ensures { result ≡ record { cells = board; hands = hands; side = side } }
@@ -73,8 +73,8 @@ impl Position {
         Position { board, hands, side }
     }
 
-    /// The other side is to move, `from` is empty, this stands on `to`, and both sides hold these;
-    /// all else stays. The position must then have none of the faults.
+    /// Plays a move on the board: empties `from`, puts `piece` on `to`, sets the hands and passes
+    /// the turn. The result must be a position without a fault.
     pub fn move_piece(&mut self, from: Square, to: Square, piece: Option<Piece>, hands: Hands)
         requires { fault_of (with_piece_moved self.old from to piece hands) ≡ None }
         ensures { self.new ≡ with_piece_moved self.old from to piece hands }
@@ -90,8 +90,8 @@ impl Position {
         *side = side.opponent();
     }
 
-    /// The other side is to move, this stands on `to`, and both sides hold these; all else stays.
-    /// The position must then have none of the faults.
+    /// Plays a drop: puts `dropped` on `to`, sets the hands and passes the turn. The result must be
+    /// a position without a fault.
     pub fn drop_piece(&mut self, to: Square, dropped: Option<Piece>, hands: Hands)
         requires { fault_of (with_piece_dropped self.old to dropped hands) ≡ None }
         ensures { self.new ≡ with_piece_dropped self.old to dropped hands }
@@ -106,21 +106,21 @@ impl Position {
         *side = side.opponent();
     }
 
-    /// The board.
+    /// A copy of the board.
     pub fn board(&self) -> Board
         ensures { result ≡ self.now.cells }
     {
         self.board
     }
 
-    /// The board, lent.
+    /// A reference to the board.
     pub fn as_board(&self) -> &Board
         ensures { result.now ≡ self.now.cells }
     {
         &self.board
     }
 
-    /// What both sides hold.
+    /// The pieces in hand of both sides.
     pub fn hands(&self) -> Hands
         ensures { result ≡ self.now.hands }
     {
@@ -134,21 +134,21 @@ impl Position {
         self.side
     }
 
-    /// How many pieces of the kind the side holds.
+    /// The number of pieces of the kind in the side's hand.
     pub fn hand(&self, color: Color, kind: Kind) -> u8
         ensures { result ≡ count_in_hand self.now.hands color kind }
     {
         self.hands.count(color, kind)
     }
 
-    /// What stands on the square.
+    /// The piece on the square, or `None` if the square is empty.
     pub fn at(&self, square: Square) -> Option<Piece>
         ensures { result ≡ piece_at self.now.cells square }
     {
         self.board.at(square)
     }
 
-    /// The square of the side's king, if it has one.
+    /// The square of the side's king, or `None` if the side has none.
     #[inline(always)]
     #[tactic(auto, using(crate::proofs::Kings::one_king))]
     pub fn king(&self, side: Color) -> Option<Square>
@@ -164,15 +164,15 @@ impl Position {
         Some(Square::of_index(lowest(kings)))
     }
 
-    /// Whether the piece on the one square has a step, a jump or a free slide to the other;
-    /// false where the first is empty.
+    /// Whether the piece on `from` has a step, a jump or a free slide to `to`; false if `from` is
+    /// empty.
     pub fn reaches(&self, from: Square, to: Square) -> bool
         ensures { result ≡ reaches self.now.cells from to }
     {
         self.board.reaches(from, to)
     }
 
-    /// Whether the other is the same position, to the last piece in hand.
+    /// Whether the positions are equal: board, hands and side to move.
     pub fn is_same(&self, other: &Position) -> bool
         ensures equal { IsTrue result ↔ (self.now ≡ other.now) }
         ensures test { result ≡ is_same_position self.now other.now }
@@ -180,7 +180,7 @@ impl Position {
         self == other
     }
 
-    /// Gives proofs that the position is valid, and does nothing.
+    /// Tells the prover that the position is valid; does nothing at run time.
     pub fn reveal_invariant(&self)
         ensures { IsValid self.now }
     {

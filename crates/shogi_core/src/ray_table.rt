@@ -1,6 +1,7 @@
-//! The table of `rays`.
+//! The table that `rays` reads.
 
-/// The squares that a line leads to from each square, line by line, and for each square by index.
+/// For each direction by number, and in it for each square by index: the squares on the line from
+/// it.
 pub const RAYS: [u128; 648] = [
     510,
     508,

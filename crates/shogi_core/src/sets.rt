@@ -1,4 +1,4 @@
-//! What is asked of sets of squares.
+//! Operations on sets of squares.
 
 ghost use Rattle.std.specs.Prelude.{◌≡◌, ◌-◌, ◌^◌, ◌==◌, ◌&&◌, ◌||◌, ℕ, true, not, IsNone, IfSome, bit_and, bit_or};
 ghost use Rattle.shogi_core.specs.Bits.{has_bit};
@@ -14,7 +14,7 @@ impl BitAnd for Squares {
 
     ghost bitand_gives = { λ a b both. both.bits ≡ bit_and a.bits b.bits };
 
-    /// The squares in both.
+    /// The intersection: squares in both sets.
     fn bitand(self, other: Squares) -> Squares {
         Squares {
             bits: self.bits & other.bits,
@@ -27,7 +27,7 @@ impl BitOr for Squares {
 
     ghost bitor_gives = { λ a b either. either.bits ≡ bit_or a.bits b.bits };
 
-    /// The squares in one of the two.
+    /// The union: squares in one set or the other.
     #[tactic(auto, using(crate::proofs::LineBits::or_fits))]
     fn bitor(self, other: Squares) -> Squares {
         Squares {
@@ -37,28 +37,28 @@ impl BitOr for Squares {
 }
 
 impl Squares {
-    /// No square.
+    /// The empty set.
     pub fn none() -> Squares
         ensures { result.bits ≡ 0 }
     {
         Squares { bits: 0 }
     }
 
-    /// Every square of the board.
+    /// The set of all 81 squares.
     pub fn all() -> Squares
         ensures { result.bits ≡ 2 ^ 81 - 1 }
     {
         Squares { bits: ALL_SQUARES }
     }
 
-    /// Whether there is none.
+    /// Whether the set has no square.
     pub fn is_empty(self) -> bool
         ensures { result ≡ (self.bits == 0) }
     {
         self.bits == 0
     }
 
-    /// Whether the square is one of them.
+    /// Whether the set has the square.
     pub fn has(self, square: Square) -> bool
         ensures { result ≡ has_bit self.bits square }
     {
@@ -66,7 +66,7 @@ impl Squares {
         has(self.bits, square.index())
     }
 
-    /// These and the square.
+    /// The set with the square added.
     pub fn with(self, square: Square) -> Squares
         ensures { (i : ℕ) → has_bit result.bits i ≡ (has_bit self.bits i || i == square) }
     {
@@ -76,7 +76,7 @@ impl Squares {
         }
     }
 
-    /// These but for the square.
+    /// The set with the square removed.
     pub fn except(self, square: Square) -> Squares
         ensures { (i : ℕ) → has_bit result.bits i ≡ (has_bit self.bits i && not (i == square)) }
     {
@@ -86,7 +86,7 @@ impl Squares {
         }
     }
 
-    /// Those that are not among the others.
+    /// The squares of the set that are not among the others.
     #[tactic(auto, using(crate::proofs::LineBits::and_fits))]
     pub fn without(self, others: Squares) -> Squares
         ensures { result.bits ≡ bit_and self.bits (2 ^ 128 - 1 - others.bits) }
@@ -96,7 +96,7 @@ impl Squares {
         }
     }
 
-    /// Those that pass the test.
+    /// The squares of the set that pass the test.
     pub fn sift<F: Fn(Square) -> bool>(self, test: F) -> Squares
         requires { F.IsAlwaysCallable test }
         ensures sifted { IsSifted (F.post test) self.bits result.bits }
@@ -113,7 +113,7 @@ impl Squares {
         Squares { bits: kept }
     }
 
-    /// The first that passes the test, if there is one.
+    /// The square of lowest index that passes the test, or `None` if none does.
     pub fn find<F: Fn(Square) -> bool>(self, test: F) -> Option<Square>
         requires { F.IsAlwaysCallable test }
         ensures if_none { IsNone result → NonePasses (F.post test) self.bits 81 }
@@ -133,7 +133,7 @@ impl Squares {
         None
     }
 
-    /// All squares that one of these leads to.
+    /// The union of the sets that `each` gives for the squares of this set.
     #[tactic(auto, using(crate::proofs::Sifting::uniting))]
     pub fn union<F: Fn(Square) -> Squares>(self, each: F) -> Squares
         requires { F.IsAlwaysCallable each }

@@ -24,7 +24,7 @@ impl Model for Square {
 }
 
 impl Square {
-    /// The square of a file and a rank, each from 1 to 9, and `None` for any other numbers.
+    /// The square with this file and rank, each from 1 to 9, or `None` if one is out of range.
     pub fn new(file: u8, rank: u8) -> Option<Square>
         ensures on_board { IsSome result ↔ IsOnBoard file rank }
         ensures index { IfSome result (λ square. square ≡ index_of file rank) }
@@ -37,7 +37,7 @@ impl Square {
         })
     }
 
-    /// The index, from 0 to 80: file by file, and on each file rank by rank.
+    /// The index, from 0 to 80: file by file, and rank by rank on each file.
     pub fn index(self) -> usize
         ensures index { result ≡ self }
         ensures range { result < 81 }
@@ -45,7 +45,7 @@ impl Square {
         self.index as usize
     }
 
-    /// The rank, from 1 at White's side to 9; USI writes it as a letter from `a` to `i`.
+    /// The rank, from 1 on White's side to 9; USI writes it as a letter from `a` to `i`.
     pub fn rank(self) -> u8
         ensures { result ≡ self % 9 + 1 }
     {
@@ -54,14 +54,14 @@ impl Square {
 }
 
 impl Square {
-    /// Gives proofs that the index is below 81, and does nothing.
+    /// Tells the prover that the index is below 81; does nothing at run time.
     pub fn reveal_invariant(&self)
         ensures { self.now < 81 }
     {
         let _ = &self.index;
     }
 
-    /// The square of an index below 81.
+    /// The square with this index, which must be below 81.
     pub fn of_index(index: usize) -> Square
         requires { index < 81 }
         ensures { result ≡ index }

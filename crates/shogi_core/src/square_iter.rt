@@ -1,4 +1,4 @@
-//! The squares of a set, one after another.
+//! Iteration over a set of squares.
 
 ghost use Rattle.std.specs.Prelude.{◌≡◌, ℕ, IfSome, IsNone};
 ghost use Rattle.shogi_core.specs.Sets.{HasNone, TakesLowest};
@@ -8,7 +8,7 @@ use crate::square::Square;
 use crate::squares::Squares;
 use std::marker::Model;
 
-/// The squares of a set that are still to come, by rising index.
+/// The squares of a set still to come, by rising index.
 #[derive(Drop)]
 pub struct SquareIter {
     left: u128,
@@ -25,7 +25,7 @@ impl Model for SquareIter {
 }
 
 impl Squares {
-    /// Its squares, by rising index.
+    /// Iterates over the squares of the set, by rising index.
     #[inline(always)]
     pub fn iter(self) -> SquareIter
         ensures { result ≡ self.bits }
@@ -35,7 +35,7 @@ impl Squares {
 }
 
 impl SquareIter {
-    /// The next square, if one is left.
+    /// The next square, or `None` if none is left.
     #[inline(always)]
     #[tactic(auto, using(crate::proofs::BitLaws::has_none))]
     pub fn next(&mut self) -> Option<Square>

@@ -2,7 +2,7 @@
 
 ghost use Rattle.std.specs.Prelude.{◌<◌, ◌^◌};
 
-/// A set of squares of the board: bit n is set where that of index n is in it.
+/// A set of squares of the board: bit n is set if the set has the square of index n.
 #[derive(Clone, Copy, Debug, PartialEq, Eq)]
 pub struct Squares {
     pub bits: u128,

@@ -5,8 +5,7 @@ ghost use Rattle.shogi_core.specs.Start.{cell_with, start_cells};
 
 use crate::piece::{Color, Piece, Role};
 
-// The squares of the sides, of the kings and of the pieces that slide in the opening position, and
-// the words of its board.
+// Masks of the opening board (each side's pieces, kings, sliders) and its words.
 pub const START_BLACK: u128 = 1515295121079352776950080;
 
 pub const START_WHITE: u128 = 23676486266864887139845;
@@ -25,7 +24,7 @@ pub const START_WORDS: [u64; 7] = [
     3300682383377,
 ];
 
-/// The roles on the first and the last rank, file by file.
+/// The roles on each side's first rank, by file.
 const BACK_RANK: [Role; 9] = [
     Role::Lance,
     Role::Knight,
@@ -38,14 +37,14 @@ const BACK_RANK: [Role; 9] = [
     Role::Lance,
 ];
 
-/// A square with a piece of the side and role on it.
+/// A cell with a piece of this side and role.
 fn cell_with(color: Color, role: Role) -> Option<Piece>
     ensures { result ≡ cell_with color role }
 {
     Some(Piece { color, role })
 }
 
-/// The cells of the opening position.
+/// The 81 cells of the opening board.
 pub fn start_cells() -> [Option<Piece>; 81]
     ensures { result ≡ start_cells }
 {

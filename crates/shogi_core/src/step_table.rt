@@ -1,6 +1,6 @@
-//! The table of `steps`.
+//! The table that `steps` reads.
 
-/// The squares to which steps and jumps lead, by the kind of steps, the side, and the square.
+/// The squares to which steps and jumps lead, by step pattern, side (Black first) and square.
 pub const STEPS: [u128; 1296] = [
     0,
     0,

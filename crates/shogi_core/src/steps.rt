@@ -1,4 +1,4 @@
-//! Where steps and jumps from each square lead.
+//! Steps and jumps from a square.
 
 ghost use Rattle.std.specs.Prelude.{◌≡◌, ◌<◌};
 ghost use Rattle.shogi_core.specs.Bits.{HasBits};
@@ -11,10 +11,10 @@ use crate::square::Square;
 use crate::squares::Squares;
 use crate::step_table::STEPS;
 
-// Which of the kinds of steps each role has, in the order in which roles are declared.
+// The step pattern of each role, in the order in which roles are declared: the index into `STEPS`.
 const STEPS_KINDS: [usize; 14] = [1, 2, 0, 3, 4, 5, 0, 0, 5, 5, 5, 5, 6, 7];
 
-/// Which of the kinds of steps the role has.
+/// The step pattern of the role, from 0 to 7.
 fn steps_kind(role: Role) -> usize
     ensures steps { steps_at result ≡ steps_of role }
     ensures range { result < 8 }
@@ -33,7 +33,7 @@ fn color_number(color: Color) -> usize
     }
 }
 
-/// The squares to which a step or a jump of the piece leads.
+/// The squares to which a step or a jump leads the piece from the square.
 pub fn step_squares(piece: Piece, from: Square) -> Squares
     ensures squares { HasBits result.bits (has_step piece from) }
 {
@@ -42,14 +42,14 @@ pub fn step_squares(piece: Piece, from: Square) -> Squares
     }
 }
 
-/// The squares to which a step or a jump of a piece of this colour and role leads.
+/// The squares to which a step or a jump leads a piece of this side and role from the square.
 fn squares_of(color: Color, role: Role, from: Square) -> Squares
     ensures squares { HasBits result.bits (has_step (record { color = color; role = role }) from) }
 {
     step_squares(Piece { color, role }, from)
 }
 
-/// The squares to which a knight of either side would jump.
+/// The squares to which a knight of either side would jump from the square.
 #[tactic(auto, using(crate::proofs::TargetLaws::no_bits))]
 pub fn jump_squares(from: Square) -> Squares
     ensures squares { HasBits result.bits (is_jump from) }
@@ -57,7 +57,7 @@ pub fn jump_squares(from: Square) -> Squares
     squares_of(Color::Black, Role::Knight, from) | squares_of(Color::White, Role::Knight, from)
 }
 
-/// The squares next to the square, and a knight's jump away.
+/// The squares next to the square or a knight's jump of either side away.
 #[tactic(auto, using(crate::proofs::TargetLaws::no_bits))]
 pub fn near_squares(from: Square) -> Squares
     ensures squares { HasBits result.bits (is_near from) }

@@ -1,4 +1,4 @@
-//! The squares that a piece reaches.
+//! The squares that a piece attacks.
 
 ghost use Rattle.std.specs.Prelude.{◌≡◌, ◌≢◌, ◌<◌, Some, true};
 ghost use Rattle.shogi_core.specs.declared.piece.Color.{Color};
@@ -14,8 +14,8 @@ use crate::square::Square;
 use crate::squares::Squares;
 use crate::steps::step_squares;
 
-/// The squares that slides reach along ranks and files, where `first` is down, or along diagonals,
-/// where it is up-left: in every second direction from that one on.
+/// The squares that slides reach along files and ranks if `first` is down, or along diagonals if it
+/// is up-left. The four directions are `first` and its quarter turns.
 #[inline(always)]
 pub fn four_slides(board: &Board, first: Direction, from: Square) -> Squares
     requires first { first < 2 }
@@ -31,7 +31,7 @@ pub fn four_slides(board: &Board, first: Direction, from: Square) -> Squares
     }
 }
 
-/// The squares that a slide forward reaches.
+/// The squares that a slide forward reaches, as the side goes.
 #[tactic(auto, using(crate::proofs::TargetLaws::one_way))]
 fn forward_squares(board: &Board, color: Color, from: Square) -> Squares
     ensures squares { HasBits result.bits (is_slide board.now color forward from) }
@@ -42,8 +42,7 @@ fn forward_squares(board: &Board, color: Color, from: Square) -> Squares
     }
 }
 
-/// Where the directions begin in which a piece of the role slides, which is no lance (see
-/// `four_slides`).
+/// The direction that `four_slides` takes first for the role, which slides and is no lance.
 #[inline(always)]
 fn first_direction(role: Role) -> Direction
     requires sliding { is_sliding_role role ≡ true }
@@ -58,7 +57,7 @@ fn first_direction(role: Role) -> Direction
     }
 }
 
-/// The squares that slides of the piece, which slides, reach.
+/// The squares that the piece, a slider, reaches by slides.
 #[inline(never)]
 fn slider_slides(board: &Board, piece: Piece, from: Square) -> Squares
     requires sliding { is_sliding_role piece.role ≡ true }
@@ -70,7 +69,7 @@ fn slider_slides(board: &Board, piece: Piece, from: Square) -> Squares
     }
 }
 
-/// The squares that slides of the piece reach. Most pieces do not slide, and reach none.
+/// The squares that the piece reaches by slides. Most pieces do not slide and reach none.
 #[tactic(auto, using(crate::proofs::TargetLaws::no_slides))]
 fn piece_slides(board: &Board, piece: Piece, from: Square) -> Squares
     ensures squares { HasBits result.bits (has_slide board.now piece from) }
@@ -83,8 +82,7 @@ fn piece_slides(board: &Board, piece: Piece, from: Square) -> Squares
 }
 
 impl Board {
-    /// The squares that the piece would reach if it stood on the square, where now stands whatever
-    /// does.
+    /// The squares that the piece would attack from `from`, whatever stands there now.
     #[tactic(auto, using(crate::proofs::TargetLaws::no_bits))]
     pub fn targets_of(&self, piece: Piece, from: Square) -> Squares
         ensures squares { HasBits result.bits (cell_reaches self.now (Some piece) from) }
@@ -92,7 +90,7 @@ impl Board {
         step_squares(piece, from) | piece_slides(self, piece, from)
     }
 
-    /// The squares that the piece on the square reaches; none where it is empty.
+    /// The squares that the piece on `from` attacks; none if `from` is empty.
     #[tactic(auto, using(crate::proofs::TargetLaws::no_bits), unfolding(crate::specs::Movement::reaches))]
     pub fn targets(&self, from: Square) -> Squares
         ensures squares { HasBits result.bits (reaches self.now from) }
@@ -104,7 +102,8 @@ impl Board {
         }
     }
 
-    /// Whether the piece on the one square has a step, a jump or a free slide to the other.
+    /// Whether the piece on `from` has a step, a jump or a free slide to `to`; false if `from` is
+    /// empty.
     pub fn reaches(&self, from: Square, to: Square) -> bool
         ensures { result ≡ reaches self.now from to }
     {

@@ -1,4 +1,4 @@
-//! Which positions are valid.
+//! Valid positions and their faults.
 
 ghost use Rattle.std.specs.Prelude.{◌≡◌, count_by, nat_lt, ◌<◌};
 ghost use Rattle.shogi_core.specs.Pieces.{is_of_kind, set_size};
@@ -10,24 +10,24 @@ use crate::cell::{is_immobile, is_king, is_of_kind, is_pawn};
 use crate::hands::Hands;
 use crate::piece::{Color, KINDS, Kind, Piece};
 
-/// Why a position is not valid, in the order in which the faults are looked for.
+/// Why a position is not valid. Faults are looked for in this order.
 #[derive(Clone, Copy, Debug, PartialEq, Eq, Hash)]
 pub enum PositionFault {
-    /// More pieces of a kind than one set has, on the board and in both hands, promoted ones
-    /// counted.
+    /// There are more pieces of a kind than one set has, on the board and in both hands, promoted
+    /// ones included.
     TooMany,
     /// A side has more than one king.
     TwoKings,
-    /// A side has two unpromoted pawns on a file.
+    /// A side has two unpromoted pawns on one file.
     TwoPawns,
-    /// An unpromoted pawn or lance on its last rank, or an unpromoted knight on its last two.
+    /// An unpromoted pawn or lance stands on its last rank, or a knight on its last two.
     DeadPiece,
     /// The king of the side that is not to move is attacked.
     KingOpen,
 }
 
 impl PositionFault {
-    /// The number by which the host names the fault, from 4 to 8 (own choice).
+    /// The number that the host gives for the fault, from 4 to 8 (own choice).
     pub fn number(self) -> u8
         ensures { result ≡ number_of_fault self }
     {
@@ -41,14 +41,14 @@ impl PositionFault {
     }
 }
 
-/// How many pieces of the kind stand on the board, promoted ones counted.
+/// The number of pieces of the kind on the board, promoted ones included.
 fn count_kind(cells: &[Option<Piece>; 81], kind: Kind) -> usize
     ensures { result ≡ count_by (is_of_kind kind) cells.now }
 {
     cells.iter().filter(|cell| is_of_kind(**cell, kind)).count()
 }
 
-/// How many kings of the side stand on the board.
+/// The number of kings of the side on the board.
 fn count_kings(cells: &[Option<Piece>; 81], color: Color) -> usize
     ensures { result ≡ count_by (is_king color) cells.now }
 {
@@ -62,7 +62,7 @@ fn has_two_kings(cells: &[Option<Piece>; 81]) -> bool
     count_kings(cells, Color::Black) > 1 || count_kings(cells, Color::White) > 1
 }
 
-/// How many unpromoted pawns of the side stand on the file, counted from 0.
+/// The number of unpromoted pawns of the side on the file, counted from 0.
 fn count_pawns(cells: &[Option<Piece>; 81], color: Color, file: usize) -> usize
     requires { file < 9 }
     ensures { result ≡ pawns_on_file color file cells.now }
@@ -75,7 +75,7 @@ fn count_pawns(cells: &[Option<Piece>; 81], color: Color, file: usize) -> usize
 }
 
 impl Board {
-    /// How many unpromoted pawns of the side stand on the file, counted from 0.
+    /// The number of unpromoted pawns of the side on the file, counted from 0.
     pub fn pawns_on_file(&self, side: Color, file: usize) -> usize
         requires { file < 9 }
         ensures { result ≡ pawns_on_file side file self.now }
@@ -84,7 +84,7 @@ impl Board {
     }
 }
 
-/// Whether there are more of the kind than one set has.
+/// Whether board and hands have more pieces of the kind than one set.
 fn has_too_many_of(cells: &[Option<Piece>; 81], hands: Hands, kind: Kind) -> bool
     ensures { result ≡ nat_lt (set_size kind) (count_of kind cells.now hands) }
 {
@@ -93,7 +93,7 @@ fn has_too_many_of(cells: &[Option<Piece>; 81], hands: Hands, kind: Kind) -> boo
     kind.set_size() < count_kind(cells, kind) + in_hand
 }
 
-/// Whether there are more of some kind than one set has.
+/// Whether board and hands have more pieces of some kind than one set.
 fn has_too_many(cells: &[Option<Piece>; 81], hands: Hands) -> bool
     ensures { result ≡ has_too_many cells.now hands }
 {
@@ -110,7 +110,7 @@ fn has_two_pawns_on(cells: &[Option<Piece>; 81], file: usize) -> bool
     count_pawns(cells, Color::Black, file) > 1 || count_pawns(cells, Color::White, file) > 1
 }
 
-/// Whether a side has two unpromoted pawns on a file.
+/// Whether a side has two unpromoted pawns on one file.
 #[tactic(auto, using(crate::proofs::Below::some_below_more, crate::proofs::Below::some_below_none, crate::proofs::Below::some_below_at))]
 fn has_two_pawns(cells: &[Option<Piece>; 81]) -> bool
     ensures { result ≡ has_two_pawns cells.now }
@@ -123,7 +123,7 @@ fn has_two_pawns(cells: &[Option<Piece>; 81]) -> bool
     false
 }
 
-/// Whether some piece could never move again.
+/// Whether a piece stands on a square from which it could never move again.
 #[tactic(auto, using(crate::proofs::Below::some_below_more, crate::proofs::Below::some_below_none, crate::proofs::Below::some_below_at))]
 fn has_dead_piece(cells: &[Option<Piece>; 81]) -> bool
     ensures { result ≡ has_dead_piece cells.now }
@@ -136,7 +136,7 @@ fn has_dead_piece(cells: &[Option<Piece>; 81]) -> bool
     false
 }
 
-/// The first fault of a position of these parts, if there is one.
+/// The first fault of a position with these parts, or `None` if it is valid.
 #[tactic(auto, unfolding(crate::specs::Validity::fault_of))]
 pub fn fault(cells: &[Option<Piece>; 81], hands: Hands, side: Color) -> Option<PositionFault>
     ensures { result ≡ fault_of (record { cells = cells.now; hands = hands; side = side }) }

@@ -1,11 +1,11 @@
-//! The words of a board: what stands on its squares, packed.
+//! The words of a board: all its cells, packed.
 
 ghost use Rattle.std.specs.Prelude.{◌≡◌, ◌≤◌, ◌<◌, ◌+◌, ◌*◌, ◌^◌, length, map};
 ghost use Rattle.shogi_core.specs.Words.{board_words, cell_number, number_in_base_32};
 
 use crate::piece::{Color, Piece, Role};
 
-/// A number for what stands on a square, below 32.
+/// A number below 32 for what stands in the cell; 0 if the cell is empty.
 pub fn cell_number(cell: Option<Piece>) -> u64
     ensures number { result ≡ cell_number cell }
     ensures range { result < 32 }
@@ -35,7 +35,7 @@ pub fn cell_number(cell: Option<Piece>) -> u64
     }
 }
 
-/// The word of at most twelve squares.
+/// The word of up to twelve cells.
 fn cells_word(cells: &[Option<Piece>]) -> u64
     requires { length cells.now ≤ 12 }
     ensures { result ≡ number_in_base_32 (map cell_number cells.now) }
@@ -49,7 +49,7 @@ fn cells_word(cells: &[Option<Piece>]) -> u64
     word
 }
 
-/// The words of the board of these cells.
+/// The seven words of a board with these cells.
 pub fn board_words(cells: &[Option<Piece>; 81]) -> [u64; 7]
     ensures { result ≡ board_words cells.now }
 {
@@ -64,7 +64,7 @@ pub fn board_words(cells: &[Option<Piece>; 81]) -> [u64; 7]
     ]
 }
 
-/// The word with one digit taken out of the place and another put in.
+/// The word with the digit at `place` changed from `out` to `put`.
 pub fn with_digit(word: u64, place: usize, out: u64, put: u64) -> u64
     requires place { place < 12 }
     requires word { word < 32 ^ 12 }

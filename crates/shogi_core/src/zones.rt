@@ -1,4 +1,4 @@
-//! Where pieces promote, and squares by rank and by file.
+//! Promotion zones, and sets of squares by rank and file.
 
 ghost use Rattle.std.specs.Prelude.{◌≡◌, ◌<◌, ◌/◌, nat_lt};
 ghost use Rattle.shogi_core.specs.Bits.{HasBits};
@@ -13,7 +13,7 @@ use crate::position::Position;
 use crate::square::Square;
 use crate::squares::Squares;
 
-// Ranks from rank 1 and up to rank 9.
+// Masks of ranks from rank 1 on and up to rank 9.
 const FIRST_RANK: u128 = 4731607904558235517441;
 
 const FIRST_TWO_RANKS: u128 = 14194823713674706552323;
@@ -30,7 +30,7 @@ const LAST_THREE_RANKS: u128 = 2119760341242089511813568;
 
 const LAST_FIVE_RANKS: u128 = 2346877520660884816650736;
 
-/// Whether a piece of the role can promote.
+/// Whether the role has a promoted form.
 pub fn is_promotable(role: Role) -> bool
     ensures { result ≡ is_promotable role }
 {
@@ -40,7 +40,7 @@ pub fn is_promotable(role: Role) -> bool
     )
 }
 
-/// Whether the square lies on the three ranks in which the side promotes.
+/// Whether the square is in the side's promotion zone, the three ranks farthest from it.
 pub fn in_promotion_zone(color: Color, square: Square) -> bool
     ensures { result ≡ in_promotion_zone color square }
 {
@@ -50,7 +50,7 @@ pub fn in_promotion_zone(color: Color, square: Square) -> bool
     }
 }
 
-/// Whether what stands there may promote by a move between the squares.
+/// Whether what stands in the cell may promote when it moves between the squares.
 pub fn may_promote(cell: Option<Piece>, from: Square, to: Square) -> bool
     ensures { result ≡ may_promote cell from to }
 {
@@ -61,8 +61,8 @@ pub fn may_promote(cell: Option<Piece>, from: Square, to: Square) -> bool
     }
 }
 
-// The squares on which pieces of Black's and of White's could never move again, by their roles in
-// the order in which these are declared.
+// The squares from which a piece of Black, and of White, could never move again, by role in the
+// order in which roles are declared.
 const BLACK_DEAD: [u128; 14] = [
     0,
     FIRST_RANK,
@@ -97,7 +97,7 @@ const WHITE_DEAD: [u128; 14] = [
     0,
 ];
 
-/// The squares on which the piece could never move again.
+/// The squares from which what stands in the cell could never move again.
 #[tactic(auto, using(crate::proofs::ZoneLaws::dead_bits))]
 pub fn dead_squares(cell: Option<Piece>) -> Squares
     ensures squares { HasBits result.bits (λ n. is_immobile n cell) }
@@ -112,7 +112,7 @@ pub fn dead_squares(cell: Option<Piece>) -> Squares
     Squares { bits }
 }
 
-/// The squares of the zone in which the side promotes.
+/// The squares of the side's promotion zone.
 #[tactic(auto, using(crate::proofs::ZoneLaws::zone_bits))]
 pub fn zone_squares(color: Color) -> Squares
     ensures squares { HasBits result.bits (in_promotion_zone color) }
@@ -124,7 +124,7 @@ pub fn zone_squares(color: Color) -> Squares
     Squares { bits }
 }
 
-/// The squares of the zone, and those from which a step or a jump may lead into it.
+/// The side's promotion zone and the two ranks before it, from which a step or a jump may enter it.
 #[tactic(auto, using(crate::proofs::ZoneLaws::zone_bits))]
 pub fn squares_near_zone(color: Color) -> Squares
     ensures squares { HasBits result.bits (is_near_zone color) }
@@ -136,7 +136,7 @@ pub fn squares_near_zone(color: Color) -> Squares
     Squares { bits }
 }
 
-/// The squares on which the piece may promote.
+/// The destinations at which the piece may promote when it moves from `from`.
 #[tactic(auto, using(crate::proofs::ZoneLaws::promoting_bits))]
 pub fn promoting_squares(cell: Option<Piece>, from: Square) -> Squares
     ensures squares { HasBits result.bits (may_promote cell from) }
@@ -154,7 +154,7 @@ pub fn promoting_squares(cell: Option<Piece>, from: Square) -> Squares
     zone
 }
 
-// The squares of each file.
+// The mask of each file.
 const FILES: [u128; 9] = [
     511,
     261632,
@@ -167,8 +167,9 @@ const FILES: [u128; 9] = [
     2413129272746388704198656,
 ];
 
-/// The squares of the file where an unpromoted pawn of the side stands on the square, and else none.
-/// Without a branch, since pawns stand among the others without order.
+/// The squares of the file if an unpromoted pawn of the side stands on the square, else none. Meant
+/// to compile without a branch: pawns stand among the other pieces in no order that a processor
+/// could predict.
 #[inline(always)]
 #[tactic(auto, using(crate::proofs::PawnFiles::pawn_file_bits))]
 fn pawn_file(p: &Position, side: Color, square: Square) -> Squares
@@ -183,8 +184,8 @@ fn pawn_file(p: &Position, side: Color, square: Square) -> Squares
     }
 }
 
-/// The squares of the files on which an unpromoted pawn of the side stands. Pieces that slide, and
-/// kings, need no look.
+/// The squares of all files on which the side has an unpromoted pawn. Sliders and kings need no
+/// look.
 #[inline(never)]
 pub fn pawn_files(p: &Position, side: Color) -> Squares
     ensures squares { HasBits result.bits
@@ -196,8 +197,8 @@ pub fn pawn_files(p: &Position, side: Color) -> Squares
     steppers.union(|square| pawn_file(p, side, square))
 }
 
-// The squares of the files that are at most two from each file, and of the ranks that are at most
-// four from each rank.
+// For each file the squares at most two files away, and for each rank those at most four ranks
+// away.
 const WIDE_FILES: [u128; 9] = [
     134217727,
     68719476735,
@@ -222,7 +223,7 @@ const TALL_RANKS: [u128; 9] = [
     2346877520660884816650736,
 ];
 
-/// The squares that are at most two files and four ranks from the square.
+/// The squares at most two files and four ranks away from the square.
 #[tactic(auto, using(crate::proofs::ZoneLaws::around_bits))]
 pub fn squares_around(square: Square) -> Squares
     ensures squares { HasBits result.bits (is_around square) }
