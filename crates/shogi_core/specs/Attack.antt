@@ -12,16 +12,16 @@ use Rattle.shogi_core.specs.Movement.{Cells, piece_at, reaches, has_step, slides
 use Rattle.shogi_core.specs.Pieces.{opponent_of}
 use Rattle.shogi_core.specs.Rays.{direction_at, ray_of, is_on_ray}
 
--- the piece on `from` is of the side and reaches the square
+-- the piece on `from` is of the side and attacks the square
 abbrev pub is_attacked_from : Cells → Color → ℕ → ℕ → Bool
 is_attacked_from cells color square from =
     is_piece_of color (piece_at cells from) && reaches cells from square
 
--- a piece of the side reaches the square
+-- a piece of the side attacks the square
 abbrev pub is_attacked : Cells → Color → ℕ → Bool
 is_attacked cells color square = some_below 81 (is_attacked_from cells color square)
 
--- on the square stands the king of the side, and it is attacked
+-- the king of the side stands on the square and is attacked
 abbrev pub is_open_king : Cells → Color → ℕ → Bool
 is_open_king cells color square =
     is_king color (piece_at cells square) && is_attacked cells (opponent_of color) square
@@ -30,42 +30,42 @@ is_open_king cells color square =
 unfoldable pub in_check : Cells → Color → Bool
 in_check cells color = some_below 81 (is_open_king cells color)
 
--- the piece on `from` is one of the side that slides, and on a line with the square, whatever stands between
+-- the piece on `from` is a slider of the side aligned with the square, whatever stands between
 abbrev pub is_sniper : Cells → Color → ℕ → ℕ → Bool
 is_sniper cells color square from =
     is_piece_of color (piece_at cells from) && is_slider (piece_at cells from)
     && are_aligned square from
 
--- none of the snipers stands on the line from the square in the direction of that number
+-- no sniper is on the line from the square in the direction of that number
 abbrev pub HasNoSniper : ℕ → ℕ → ℕ → Type 0
 HasNoSniper direction square snipers = bit_and (ray_of (direction_at direction) square) snipers ≡ 0
 
--- on the square stands the king of the side, and the piece on `from` is a sniper of the other side's
+-- the king of the side stands on the square, and the piece on `from` is a sniper of the opponent
 abbrev pub is_sniper_of_king : Cells → Color → ℕ → ℕ → Bool
 is_sniper_of_king cells color from square =
     is_king color (piece_at cells square) && is_sniper cells (opponent_of color) square from
 
--- the piece on `from` is one of the other side that slides, and on a line with a king of the side, whatever stands between
+-- the piece on `from` is a slider of the opponent aligned with a king of the side, whatever stands between
 unfoldable pub is_sniping : Cells → Color → ℕ → Bool
 is_sniping cells color from = some_below 81 (is_sniper_of_king cells color from)
 
--- a step or a jump of what stands there leads from the one square to the other
+-- a step or a jump leads what stands in the cell from `from` to `to`
 abbrev pub cell_steps : Option Piece → ℕ → ℕ → Bool
 cell_steps None from to = false
 cell_steps (Some piece) from to = has_step piece from to
 
--- what stands there slides against the direction
+-- what stands in the cell slides against the direction
 abbrev pub cell_slides_back : Offset → Option Piece → Bool
 cell_slides_back o None = false
 cell_slides_back o (Some piece) =
     list_any (λ p. is_same_offset (back (for_side piece.color p)) o) (slides_of piece.role)
 
--- the piece on `from` is of the side, and a step or a jump of it leads to the square
+-- the piece on `from` is of the side and attacks the square by a step or a jump
 abbrev pub is_step_from : Cells → Color → ℕ → ℕ → Bool
 is_step_from cells color square from =
     is_piece_of color (piece_at cells from) && cell_steps (piece_at cells from) from square
 
--- the piece on `from` is of the side, and slides to the square against the direction
+-- the piece on `from` is of the side and slides to the square against the direction
 abbrev pub slider_attacks_from : Cells → Color → ℕ → Offset → ℕ → Bool
 slider_attacks_from cells color square o from =
     is_piece_of color (piece_at cells from) && cell_slides_back o (piece_at cells from)
@@ -80,12 +80,12 @@ slider_attacks_along cells color square direction =
 abbrev pub slider_attacks : Cells → Color → ℕ → Bool
 slider_attacks cells color square = some_below 8 (slider_attacks_along cells color square)
 
--- the piece on `from`, a square of the mask, has a step or a jump to the square
+-- the piece on `from`, a square of the mask `among`, attacks the square by a step or a jump
 abbrev pub is_step_among : Cells → ℕ → ℕ → ℕ → Bool
 is_step_among cells among square from =
     has_bit among from && cell_steps (piece_at cells from) from square
 
--- no piece on a square of the mask has one
+-- no piece on a square of the mask `among` attacks the square by a step or a jump
 abbrev pub HasNoStep : Cells → ℕ → ℕ → Type 0
 HasNoStep cells among square = some_below 81 (is_step_among cells among square) ≡ false
 
@@ -93,35 +93,35 @@ HasNoStep cells among square = some_below 81 (is_step_among cells among square) 
 abbrev pub AreOccupied : ℕ → Cells → Type 0
 AreOccupied mask cells = HasBits mask (λ n. not (is_none (piece_at cells n)))
 
--- what another board shows of attacks by a side: its pieces are those on the first mask, as they stand here, and the squares of the second one are those that are not empty
+-- on the board `seen`, the side has exactly the pieces on the mask `among`, as they stand in `cells`, and the mask `occupied` has the squares that are not empty
 pub record IsSeenAs (cells : Cells) (among occupied : ℕ) (color : Color) (seen : Cells) : Type 0 where
   pub attackers : HasBits among (λ n. is_piece_of color (piece_at seen n))
   pub pieces : AreOccupied occupied seen
   pub same : (n : ℕ) → n < 81 → has_bit among n ≡ true → piece_at seen n ≡ piece_at cells n
 
--- the same of the side's snipers of a square alone
+-- on the board `seen`, the side has exactly the snipers on the mask `snipers`, as they stand in `cells`, and the mask `occupied` has the squares that are not empty
 pub record ShowsSnipers (cells : Cells) (square snipers occupied : ℕ) (color : Color) (seen : Cells) : Type 0 where
   pub snipers_on : HasBits snipers (is_sniper seen color square)
   pub pieces : AreOccupied occupied seen
   pub same : (n : ℕ) → n < 81 → has_bit snipers n ≡ true → piece_at seen n ≡ piece_at cells n
 
--- on each board that shows so much of the side, the answer is whether the side attacks the square
+-- on each board on which the side's pieces are `among` and the occupied squares `occupied`, the answer is whether the side attacks the square
 abbrev pub TellsAttack : Cells → ℕ → ℕ → ℕ → Bool → Type 0
 TellsAttack cells among occupied square answer = (color : Color) (seen : Cells)
     → IsSeenAs cells among occupied color seen → answer ≡ is_attacked seen color square
 
--- on each board that shows the snipers so, the answer is whether one of the side slides to the square
+-- on each board on which the side's snipers are `snipers` and the occupied squares `occupied`, the answer is whether one slides to the square
 abbrev pub TellsSliderAttack : Cells → ℕ → ℕ → ℕ → Bool → Type 0
 TellsSliderAttack cells square snipers occupied answer = (color : Color) (seen : Cells)
     → ShowsSnipers cells square snipers occupied color seen → answer ≡ slider_attacks seen color square
 
--- the same of slides against the direction of that number
+-- on each board on which the side's snipers are `snipers` and the occupied squares `occupied`, the answer is whether one slides to the square against the direction of that number
 abbrev pub TellsSliderAttackAlong : Cells → ℕ → ℕ → ℕ → ℕ → Bool → Type 0
 TellsSliderAttackAlong cells square direction snipers occupied answer = (color : Color) (seen : Cells)
     → ShowsSnipers cells square snipers occupied color seen
     → answer ≡ slider_attacks_along seen color square direction
 
--- no piece stands in the direction: each square to which a slide leads is empty
+-- no piece stands in the direction: each square that a slide reaches is empty
 abbrev pub IsOpenLine : Cells → Offset → ℕ → Type 0
 IsOpenLine cells o from = (n : ℕ) → slides cells o from n ≡ true → is_none (piece_at cells n) ≡ true
 
@@ -130,18 +130,18 @@ pub record IsFirstPiece (cells : Cells) (o : Offset) (from n : ℕ) : Type 0 whe
   pub reached : slides cells o from n ≡ true
   pub piece : is_none (piece_at cells n) ≡ false
 
--- the first piece in the direction of that number is on the square found; where none is found, none stands there
+-- `found` is the square of the first piece in the direction of that number, or `None` if the line is open
 abbrev pub FindsPiece : Cells → ℕ → ℕ → Option ℕ → Type 0
 FindsPiece cells direction from found =
     MatchOption found (IsOpenLine cells (direction_at direction) from)
     (IsFirstPiece cells (direction_at direction) from)
 
--- the same on each board whose pieces stand on the occupied squares
+-- on each board with this occupancy, `found` is the square of the first piece in the direction of that number, or `None` if the line is open
 abbrev pub FindsOccupied : ℕ → ℕ → ℕ → Option ℕ → Type 0
 FindsOccupied occupied direction from found =
     (cells : Cells) → AreOccupied occupied cells → FindsPiece cells direction from found
 
--- the piece on `from` is of the side and stands alone between the square and a sniper of the other side's, which is on `sniper`, in the direction
+-- the piece on `from` is of the side and alone shields the square from the opponent's sniper on `sniper`, in the direction
 abbrev pub is_pinned_by : Cells → Color → ℕ → Offset → ℕ → ℕ → Bool
 is_pinned_by cells color square o from sniper =
     is_piece_of color (piece_at cells from) && is_sniper cells (opponent_of color) square sniper
@@ -152,34 +152,34 @@ abbrev pub HasPinAlong : ℕ → Cells → Color → ℕ → ℕ → Type 0
 HasPinAlong m cells side square direction = (n a : ℕ) → n < 81 → a < 81
     → is_pinned_by cells side square (direction_at direction) n a ≡ true → has_bit m n ≡ true
 
--- the mask has each piece of the side that is pinned to the square, in whichever direction
+-- the mask has each piece of the side that is pinned to the square, in whatever direction
 abbrev pub HasPinned : ℕ → Cells → Color → ℕ → Type 0
 HasPinned m cells side square = (d n a : ℕ) → d < 8 → n < 81 → a < 81
     → is_pinned_by cells side square (direction_at d) n a ≡ true → has_bit m n ≡ true
 
--- no piece of the side that is not in the mask is pinned: once it is lifted off, the side is not in check
+-- no piece of the side outside the mask is pinned: once it is lifted off, the side is not in check
 abbrev pub OthersAreUnpinned : ℕ → Cells → Color → Type 0
 OthersAreUnpinned m cells side = (n : ℕ) → n < 81 → has_bit m n ≡ false
     → is_piece_of side (piece_at cells n) ≡ true → in_check (slice_set cells n None) side ≡ false
 
--- where something comes to stand on the square: each other empty square stays empty, and each other piece of the color stays
+-- only the square `to` is filled: each other empty square stays empty, and each piece of the colour elsewhere stays
 pub record FillsOnly (old new : Cells) (color : Color) (to : ℕ) : Type 0 where
   pub empty : (x : ℕ) → is_none (piece_at old x) ≡ true
       → (is_none (piece_at new x) ≡ true) ⊎ (x ≡ to)
   pub kept : (a : ℕ) → a ≢ to → is_piece_of color (piece_at old a) ≡ true
       → piece_at new a ≡ piece_at old a
 
--- the square stays attacked, unless something comes to stand on a square of the mask
+-- the square stays attacked unless something comes to stand on a square of the mask
 abbrev pub StaysAttacked : ℕ → Cells → Color → ℕ → Type 0
 StaysAttacked m cells color square = (new : Cells) (to : ℕ) → to < 81 → has_bit m to ≡ false
     → FillsOnly cells new color to → is_attacked new color square ≡ true
 
--- an attack by the side on the square, if there is one, so stays
+-- if the side attacks the square, it stays attacked unless something comes to stand on a square of the mask
 abbrev pub StaysIfAttacked : ℕ → Cells → Color → ℕ → Type 0
 StaysIfAttacked m cells by square = is_attacked cells by square ≡ true
     → StaysAttacked m cells by square
 
--- the side stays in check, unless something comes to stand on a square of the mask or a king moves
+-- the side stays in check unless something comes to stand on a square of the mask or a king moves
 abbrev pub StaysInCheck : ℕ → Cells → Color → Type 0
 StaysInCheck m cells side = (new : Cells) (to : ℕ) → to < 81 → has_bit m to ≡ false
     → FillsOnly cells new (opponent_of side) to

@@ -8,17 +8,17 @@ use Rattle.shogi_core.specs.declared.piece.Piece.{Piece}
 use Rattle.shogi_core.specs.Movement.{Cells, piece_at}
 use Rattle.shogi_core.specs.Pieces.{is_same_color}
 
--- a king
+-- the role is the king
 abbrev pub is_king_role : Role → Bool
 is_king_role King = true
 is_king_role _ = false
 
--- an unpromoted pawn
+-- the role is the unpromoted pawn
 abbrev pub is_pawn_role : Role → Bool
 is_pawn_role Pawn = true
 is_pawn_role _ = false
 
--- a role that slides
+-- the role slides
 abbrev pub is_sliding_role : Role → Bool
 is_sliding_role Lance = true
 is_sliding_role Bishop = true
@@ -27,27 +27,27 @@ is_sliding_role Horse = true
 is_sliding_role Dragon = true
 is_sliding_role _ = false
 
--- a piece that slides, of either side
+-- a slider of either side stands in the cell
 abbrev pub is_slider : Option Piece → Bool
 is_slider None = false
 is_slider (Some piece) = is_sliding_role piece.role
 
--- a piece of the side
+-- a piece of the side stands in the cell
 abbrev pub is_piece_of : Color → Option Piece → Bool
 is_piece_of color None = false
 is_piece_of color (Some piece) = is_same_color color piece.color
 
--- the king of the side
+-- a king of the side stands in the cell
 abbrev pub is_king : Color → Option Piece → Bool
 is_king color None = false
 is_king color (Some piece) = is_same_color color piece.color && is_king_role piece.role
 
--- an unpromoted pawn of the side
+-- an unpromoted pawn of the side stands in the cell
 abbrev pub is_pawn : Color → Option Piece → Bool
 is_pawn color None = false
 is_pawn color (Some piece) = is_same_color color piece.color && is_pawn_role piece.role
 
--- a piece of the role could never move again from the rank, counted from 0
+-- a piece of the side and role could never move again from the rank, counted from 0
 abbrev pub is_immobile_role : Color → Role → ℕ → Bool
 is_immobile_role Black Pawn rank = nat_lt rank 1
 is_immobile_role Black Lance rank = nat_lt rank 1
@@ -57,12 +57,12 @@ is_immobile_role White Lance rank = nat_lt 7 rank
 is_immobile_role White Knight rank = nat_lt 6 rank
 is_immobile_role _ _ rank = false
 
--- a dead piece stands there: one that could never move again
+-- what stands in the cell is a dead piece: one that could never move again from the square
 abbrev pub is_immobile : ℕ → Option Piece → Bool
 is_immobile square None = false
 is_immobile square (Some piece) = is_immobile_role piece.color piece.role (square % 9)
 
--- the square holds a dead piece
+-- a dead piece stands on the square
 abbrev pub is_immobile_on : Cells → ℕ → Bool
 is_immobile_on cells square = is_immobile square (piece_at cells square)
 

@@ -8,29 +8,29 @@ use Rattle.shogi_core.specs.declared.moves.Move.{Move}
 use Rattle.shogi_core.specs.declared.moves.Move.TheVariants.{Board, Drop}
 use Rattle.shogi_core.specs.Pieces.{kind_number}
 
--- the kind of a number
+-- the kind with this number, from 0 to 6
 abbrev pub kind_at : ℕ → Kind
 kind_at n =
     cond (n == 0) kinds.Pawn (cond (n == 1) kinds.Lance
     (cond (n == 2) kinds.Knight (cond (n == 3) kinds.Silver
     (cond (n == 4) kinds.Gold (cond (n == 5) kinds.Bishop kinds.Rook)))))
 
--- board moves come first, by from, to and promotion; then drops, by kind and to
+-- the code of a move: moves on the board come first, by `from`, `to` and promotion, then drops, by kind and `to`
 abbrev pub code_of : Move → ℕ
 code_of (Board from to promote) = (from * 81 + to) * 2 + cond promote 1 0
 code_of (Drop kind to) = FIRST_DROP + kind_number kind * 81 + to
 
--- the move of a code
+-- the move with this code, if there is one
 abbrev pub move_of : ℕ → Option Move
 move_of code =
     cond (nat_lt code FIRST_DROP) (Some (Board (code / 2 / 81) (code / 2 % 81) (code % 2 == 1)))
     (cond (nat_lt code MOVE_CODE_COUNT)
     (Some (Drop (kind_at ((code - FIRST_DROP) / 81)) ((code - FIRST_DROP) % 81))) None)
 
--- the codes of all moves from the given code on, in their order
+-- the codes of all moves from `first` on, by rising code
 unfoldable pub codes_from : ℕ → List ℕ
 codes_from first = range_with_len first (MOVE_CODE_COUNT - first)
 
--- the codes of all moves, in their order
+-- the codes of all moves, by rising code
 abbrev pub all_codes : List ℕ
 all_codes = codes_from 0

@@ -11,7 +11,7 @@ use Rattle.shogi_core.specs.declared.piece.Color.TheVariants.{Black, White}
 use Rattle.shogi_core.specs.declared.piece.Role.TheVariants.{King, Knight}
 use Rattle.shogi_core.specs.Steps.{is_step}
 
--- the other way
+-- the opposite offset
 abbrev pub back : Offset → Offset
 back o = offset_by (pos 0 -ℤ o.file) (pos 0 -ℤ o.rank)
 
@@ -19,24 +19,24 @@ back o = offset_by (pos 0 -ℤ o.file) (pos 0 -ℤ o.rank)
 abbrev pub around : List Offset
 around = straight ++ diagonal
 
--- the offsets are the same
+-- the two offsets are equal
 abbrev pub is_same_offset : Offset → Offset → Bool
 is_same_offset p q = int_eq p.file q.file && int_eq p.rank q.rank
 
--- the squares lie on a file, a rank or a diagonal, and each square between is empty
+-- the squares lie on one file, rank or diagonal, and each square between is empty
 unfoldable pub are_lined : Cells → ℕ → ℕ → Bool
 are_lined cells a b = list_any (λ o. slides cells o a b) around
 
--- the squares lie on a file, a rank or a diagonal, whatever stands between
+-- the squares lie on one file, rank or diagonal, whatever stands between
 abbrev pub are_aligned : ℕ → ℕ → Bool
 are_aligned a b = are_lined [] a b
 
--- the square lies on an open line with a king of the side
+-- a king of the side stands on `king`, on an open line with the square
 abbrev pub is_line_to_king : Cells → Color → ℕ → ℕ → Bool
 is_line_to_king cells color square king =
     is_king color (piece_at cells king) && are_lined cells square king
 
--- the square lies on an open line with some king of the side
+-- the square lies on an open line with a king of the side
 unfoldable pub is_lined_with_king : Cells → Color → ℕ → Bool
 is_lined_with_king cells color square = some_below 81 (is_line_to_king cells color square)
 

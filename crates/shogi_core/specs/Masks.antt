@@ -12,34 +12,34 @@ use Rattle.shogi_core.specs.Words.{board_words}
 abbrev pub passes : (Option Piece → Bool) → Cells → ℕ → Bool
 passes test cells square = test (piece_at cells square)
 
--- the squares on which there stands what passes the test
+-- the mask of the squares whose cells pass the test
 unfoldable pub places_of : (Option Piece → Bool) → Cells → ℕ
 places_of test cells = mask_below 81 (passes test cells)
 
--- the mask has the squares on which there stands what a call passes
+-- the mask has exactly the squares whose cells pass each test that agrees with the call
 abbrev pub HasPassing : (Option Piece → Bool → Type 0) → Cells → ℕ → Type 0
 HasPassing post cells mask = (test : Option Piece → Bool)
     → ((cell : Option Piece) (passed : Bool) → post cell passed → passed ≡ test cell)
     → mask ≡ places_of test cells
 
--- the squares on which pieces of the side stand
+-- the mask of the squares with a piece of the side
 abbrev pub own_of : Cells → Color → ℕ
 own_of cells color = places_of (is_piece_of color) cells
 
--- a king of either side
+-- a king of either side stands in the cell
 abbrev pub is_any_king : Option Piece → Bool
 is_any_king None = false
 is_any_king (Some piece) = is_king_role piece.role
 
--- the squares on which kings stand
+-- the mask of the squares with a king of either side
 abbrev pub kings_of : Cells → ℕ
 kings_of cells = places_of is_any_king cells
 
--- the squares on which pieces stand that slide
+-- the mask of the squares with a slider of either side
 abbrev pub sliders_of : Cells → ℕ
 sliders_of cells = places_of is_slider cells
 
--- there are 81 cells, and these are the masks and the words that a board keeps of them
+-- the fields of a board: 81 cells, with the masks and the words that follow from them
 abbrev pub IsBoard : Cells → ℕ → ℕ → ℕ → ℕ → List ℕ → Type 0
 IsBoard cells black white kings sliders words =
     (length cells ≡ 81) × (black ≡ own_of cells Black) × (white ≡ own_of cells White)

@@ -10,13 +10,13 @@ use Rattle.shogi_core.specs.declared.piece.Role.TheVariants.{King, Pawn, Lance, 
 use Rattle.shogi_core.specs.declared.piece.Piece.{Piece}
 use Rattle.shogi_core.specs.declared.offset.Offset.{Offset}
 
--- `some_below n f` and `all_below n f`: f is true of some number, and of each number, less than n
+-- `some_below n f`: f is true of some number less than n; `all_below n f`: of each number less than n
 
--- cells: what stands on each of some squares. Those of a board stand by the square's index, which goes file by file: 1a is 0, 1b is 1, 2a is 9
+-- what stands on each of some squares; on a board by the index of the square, file by file: 1a is 0, 1b is 1, 2a is 9
 abbrev pub Cells : Type 0
 Cells = List (Option Piece)
 
--- an offset of these changes
+-- the offset with these changes of file and rank
 abbrev pub offset_by : ℤ → ℤ → Offset
 offset_by file rank = record { file = file; rank = rank }
 
@@ -101,8 +101,8 @@ square_at (pos file) (pos rank) =
 square_at (pos file) (negsuc rank) = None
 square_at (negsuc file) rank = None
 
--- an offset of Black's as the side makes it: for White its rank is reversed, and its file stays, since the offsets of
--- every piece are the same to the left and to the right
+-- an offset stated for Black, turned for the side: for White the rank is reversed; the file stays, since every piece
+-- has the same offsets to the left and to the right
 abbrev pub for_side : Color → Offset → Offset
 for_side Black offset = offset
 for_side White offset = offset_by offset.file (pos 0 -ℤ offset.rank)
@@ -112,12 +112,12 @@ unfoldable pub away : ℕ → Offset → ℕ → Option ℕ
 away n offset from =
     square_at (pos (from / 9) +ℤ pos n *ℤ offset.file) (pos (from % 9) +ℤ pos n *ℤ offset.rank)
 
--- there is a square, and it is this one
+-- the option is this square
 abbrev pub is_same_square : Option ℕ → ℕ → Bool
 is_same_square None to = false
 is_same_square (Some square) to = square == to
 
--- n steps by the offset lead from the one square to the other
+-- n steps by the offset lead from `from` to `to`
 abbrev pub leads : ℕ → Offset → ℕ → ℕ → Bool
 leads n offset from to = is_same_square (away n offset from) to
 
@@ -125,47 +125,47 @@ leads n offset from to = is_same_square (away n offset from) to
 abbrev pub piece_at : Cells → ℕ → Option Piece
 piece_at cells square = slice_index_or cells square None
 
--- there is a square, and nothing stands on it
+-- the option is a square, and it is empty
 abbrev pub is_empty : Cells → Option ℕ → Bool
 is_empty cells (Some square) = is_none (piece_at cells square)
 is_empty cells None = false
 
--- the square k + 1 steps away is empty; with k from 0 on these are the squares of a slide in order
+-- the square k + 1 steps away is empty; with k from 0 on, these are the squares of a slide in order
 abbrev pub is_step_empty : Cells → Offset → ℕ → ℕ → Bool
 is_step_empty cells offset from k = is_empty cells (away (k + 1) offset from)
 
--- a slide of n + 1 steps in the direction leads from the one square to the other, and the n squares between are empty
+-- a slide of n + 1 steps in the direction leads from `from` to `to`, and the n squares between are empty
 abbrev pub slides_across : Cells → Offset → ℕ → ℕ → ℕ → Bool
 slides_across cells offset from to n =
     leads (n + 1) offset from to && all_below n (is_step_empty cells offset from)
 
--- a slide in the direction leads from the one square to the other, and each of the 0 to 7 squares between is empty, whatever stands on the two
+-- a slide in the direction leads from `from` to `to` with 0 to 7 squares between, all empty, whatever stands on the ends
 abbrev pub slides : Cells → Offset → ℕ → ℕ → Bool
 slides cells offset from to = some_below 8 (slides_across cells offset from to)
 
--- a step or a jump of the piece leads from the one square to the other
+-- a step or a jump of the piece leads from `from` to `to`
 abbrev pub has_step : Piece → ℕ → ℕ → Bool
 has_step piece from to =
     list_any (λ offset. leads 1 (for_side piece.color offset) from to) (steps_of piece.role)
 
--- a free slide by one of the offsets, as the side makes them, leads from the one square to the other
+-- a free slide by one of the offsets, turned for the side, leads from `from` to `to`
 abbrev pub is_slide : Cells → Color → List Offset → ℕ → ℕ → Bool
 is_slide cells color offsets from to =
     list_any (λ offset. slides cells (for_side color offset) from to) offsets
 
--- the mask has the squares to which a free slide of either side in one of the directions leads, and no others
+-- the mask has exactly the squares that a free slide of either side in one of the directions reaches
 abbrev pub HasSlides : ℕ → Cells → List Offset → ℕ → Type 0
 HasSlides m cells offsets from = (color : Color) → HasBits m (is_slide cells color offsets from)
 
--- a free slide of the piece leads from the one square to the other
+-- a free slide of the piece leads from `from` to `to`
 abbrev pub has_slide : Cells → Piece → ℕ → ℕ → Bool
 has_slide cells piece from to = is_slide cells piece.color (slides_of piece.role) from to
 
--- what stands in a cell, if it stood on the one square, has a step, a jump or a free slide to the other
+-- what stands in the cell, put on `from`, has a step, a jump or a free slide to `to`
 abbrev pub cell_reaches : Cells → Option Piece → ℕ → ℕ → Bool
 cell_reaches cells None from to = false
 cell_reaches cells (Some piece) from to = has_step piece from to || has_slide cells piece from to
 
--- the piece on the one square has a step, a jump or a free slide to the other: it attacks that square, whoever stands there
+-- the piece on `from` has a step, a jump or a free slide to `to`: it attacks `to`, whatever stands there
 unfoldable pub reaches : Cells → ℕ → ℕ → Bool
 reaches cells from to = cell_reaches cells (piece_at cells from) from to

@@ -8,18 +8,18 @@ use Rattle.shogi_core.specs.declared.piece.Role.{Role}
 use Rattle.shogi_core.specs.declared.piece.Role.TheVariants.{King, Pawn, Lance, Knight, Silver, Gold, Bishop, Rook, PromotedPawn, PromotedLance, PromotedKnight, PromotedSilver, Horse, Dragon}
 use Rattle.shogi_core.specs.declared.piece.Piece.{Piece}
 
--- the other side
+-- the opponent of the side
 abbrev pub opponent_of : Color → Color
 opponent_of Black = White
 opponent_of White = Black
 
--- two colours are the same
+-- both are the same side
 abbrev pub is_same_color : Color → Color → Bool
 is_same_color Black Black = true
 is_same_color White White = true
 is_same_color _ _ = false
 
--- the kinds in their order: P L N S G B R
+-- the number of a kind, in the order P L N S G B R
 abbrev pub kind_number : Kind → ℕ
 kind_number kinds.Pawn = 0
 kind_number kinds.Lance = 1
@@ -29,18 +29,18 @@ kind_number kinds.Gold = 4
 kind_number kinds.Bishop = 5
 kind_number kinds.Rook = 6
 
--- the kind after one, in this order; none after the last
+-- `next` is the kind with the next number, or `None` after the rook
 abbrev pub IsKindAfter : Kind → Option Kind → Type 0
 IsKindAfter kind next =
     MatchOption next (kind_number kind ≡ 6) (λ k. kind_number k ≡ kind_number kind + 1)
 
--- all of them
+-- all kinds, by number
 abbrev pub all_kinds : List Kind
 all_kinds =
     kinds.Pawn ∷ kinds.Lance ∷ kinds.Knight ∷ kinds.Silver ∷ kinds.Gold ∷ kinds.Bishop ∷ kinds.Rook
     ∷ []
 
--- how many of a kind one set has
+-- the number of pieces of the kind in one set
 abbrev pub set_size : Kind → ℕ
 set_size kinds.Pawn = 18
 set_size kinds.Lance = 4
@@ -50,7 +50,7 @@ set_size kinds.Gold = 4
 set_size kinds.Bishop = 2
 set_size kinds.Rook = 2
 
--- what a piece is in hand; a king is in no hand
+-- the kind that a captured piece of the role becomes in hand; a king becomes none
 abbrev pub kind_of : Role → Option Kind
 kind_of King = None
 kind_of Pawn = Some kinds.Pawn
@@ -67,17 +67,17 @@ kind_of PromotedSilver = Some kinds.Silver
 kind_of Horse = Some kinds.Bishop
 kind_of Dragon = Some kinds.Rook
 
--- the kind is this one
+-- the option is this kind
 abbrev pub is_role_of_kind : Kind → Option Kind → Bool
 is_role_of_kind kind None = false
 is_role_of_kind kind (Some other) = kind_number other == kind_number kind
 
--- a piece of the kind, promoted or not
+-- a piece of the kind stands in the cell, promoted or not
 abbrev pub is_of_kind : Kind → Option Piece → Bool
 is_of_kind kind None = false
 is_of_kind kind (Some piece) = is_role_of_kind kind (kind_of piece.role)
 
--- a held piece as it is dropped
+-- the role in which a piece of the kind is dropped
 abbrev pub role_of : Kind → Role
 role_of kinds.Pawn = Pawn
 role_of kinds.Lance = Lance
@@ -87,7 +87,7 @@ role_of kinds.Gold = Gold
 role_of kinds.Bishop = Bishop
 role_of kinds.Rook = Rook
 
--- what a piece becomes by promotion; king, gold and promoted pieces stay
+-- the role after promotion; king, gold and promoted roles stay
 abbrev pub promoted : Role → Role
 promoted King = King
 promoted Pawn = PromotedPawn

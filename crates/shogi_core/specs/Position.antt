@@ -7,26 +7,26 @@ use Rattle.shogi_core.specs.declared.piece.Piece.{Piece}
 use Rattle.shogi_core.specs.Movement.{Cells}
 use Rattle.shogi_core.specs.Pieces.{kind_number, opponent_of}
 
--- the counts held, Black's of each kind and then White's
+-- the pieces in hand: Black's count of each kind by number, then White's
 abbrev pub HandCounts : Type 0
 HandCounts = List ℕ
 
--- the place of a count
+-- the index of a count in the list
 abbrev pub place_of : Color → Kind → ℕ
 place_of Black kind = kind_number kind
 place_of White kind = kind_number kind + 7
 
--- how many of a kind the side holds
+-- the number of pieces of the kind in the side's hand
 abbrev pub count_in_hand : HandCounts → Color → Kind → ℕ
 count_in_hand hands color kind = slice_index hands (place_of color kind)
 
--- a position, valid or not
+-- the parts of a position, valid or not
 pub record Shogi : Type 0 where
   pub cells : Cells
   pub hands : HandCounts
   pub side : Color
 
--- the position once a piece moved: `from` is empty, this stands on `to`, both sides hold these, and the other is to move
+-- the position after a move on the board: `from` is empty, `piece` stands on `to`, the hands are `hands`, and the turn has passed
 abbrev pub with_piece_moved : Shogi → ℕ → ℕ → Option Piece → HandCounts → Shogi
 with_piece_moved p from to piece hands = record {
   cells = slice_set (slice_set p.cells from None) to piece;
@@ -34,7 +34,7 @@ with_piece_moved p from to piece hands = record {
   side = opponent_of p.side;
 }
 
--- the position once a piece was dropped: this stands on `to`, both sides hold these, and the other is to move
+-- the position after a drop: `piece` stands on `to`, the hands are `hands`, and the turn has passed
 abbrev pub with_piece_dropped : Shogi → ℕ → Option Piece → HandCounts → Shogi
 with_piece_dropped p to piece hands = record {
   cells = slice_set p.cells to piece;

@@ -7,7 +7,7 @@ use Rattle.shogi_core.specs.declared.piece.Piece.{Piece}
 use Rattle.shogi_core.specs.declared.piece.Role.{Role}
 use Rattle.shogi_core.specs.declared.piece.Role.TheVariants as role
 
--- a number for each role
+-- a number for each role, from 0 to 13
 abbrev pub role_number : Role → ℕ
 role_number role.King = 0
 role_number role.Pawn = 1
@@ -24,7 +24,7 @@ role_number role.PromotedSilver = 11
 role_number role.Horse = 12
 role_number role.Dragon = 13
 
--- the pieces have one colour and one role
+-- the pieces have the same colour and the same role
 abbrev pub is_same_piece : Piece → Piece → Bool
 is_same_piece a b = is_same_color a.color b.color && role_number a.role == role_number b.role
 

@@ -8,11 +8,11 @@ use Rattle.shogi_core.specs.declared.piece.Piece.{Piece}
 use Rattle.shogi_core.specs.Movement.{Cells}
 use Rattle.shogi_core.specs.Position.{Shogi}
 
--- a square with a piece of the side and role on it
+-- a cell with a piece of this side and role
 abbrev pub cell_with : Color → Role → Option Piece
 cell_with color role = Some (record { color = color; role = role })
 
--- file by file, and on each file rank by rank
+-- the 81 cells of the opening board, file by file, and rank by rank on each file
 abbrev pub start_cells : Cells
 start_cells =
     cell_with White Lance ∷ None ∷ cell_with White Pawn ∷ None ∷ None ∷ None ∷ cell_with Black Pawn ∷ None ∷ cell_with Black Lance
@@ -25,6 +25,6 @@ start_cells =
     ∷ cell_with White Knight ∷ cell_with White Rook ∷ cell_with White Pawn ∷ None ∷ None ∷ None ∷ cell_with Black Pawn ∷ cell_with Black Bishop ∷ cell_with Black Knight
     ∷ cell_with White Lance ∷ None ∷ cell_with White Pawn ∷ None ∷ None ∷ None ∷ cell_with Black Pawn ∷ None ∷ cell_with Black Lance ∷ []
 
--- Black moves first, and nothing is held
+-- the opening position: Black moves first, and both hands are empty
 abbrev pub start : Shogi
 start = record { cells = start_cells; hands = replicate 14 0; side = Black }

@@ -13,13 +13,13 @@ use Rattle.shogi_core.specs.Movement.{Cells, piece_at}
 use Rattle.shogi_core.specs.Pieces.{opponent_of, all_kinds, set_size, is_of_kind}
 use Rattle.shogi_core.specs.Position.{Shogi, HandCounts, count_in_hand}
 
--- how many of a kind there are, on the board and in both hands
+-- the number of pieces of the kind on the board and in both hands, promoted ones included
 abbrev pub count_of : Kind → Cells → HandCounts → ℕ
 count_of kind cells hands =
     count_by (is_of_kind kind) cells + count_in_hand hands Black kind
     + count_in_hand hands White kind
 
--- more of a kind than one set has
+-- there are more pieces of some kind than one set has
 abbrev pub has_too_many : Cells → HandCounts → Bool
 has_too_many cells hands =
     list_any (λ kind. nat_lt (set_size kind) (count_of kind cells hands)) all_kinds
@@ -29,15 +29,15 @@ abbrev pub has_two_kings : Cells → Bool
 has_two_kings cells =
     nat_lt 1 (count_by (is_king Black) cells) || nat_lt 1 (count_by (is_king White) cells)
 
--- the nine cells of a file; files are counted from 0
+-- the nine cells of a file, counted from 0
 abbrev pub on_file : ℕ → Cells → Cells
 on_file file cells = take 9 (drop (9 * file) cells)
 
--- how many unpromoted pawns of the side stand on the file
+-- the number of unpromoted pawns of the side on the file
 abbrev pub pawns_on_file : Color → ℕ → Cells → ℕ
 pawns_on_file color file cells = count_by (is_pawn color) (on_file file cells)
 
--- an unpromoted pawn of the side stands on the first square, and the other is on its file
+-- an unpromoted pawn of the side stands on `square`, and `n` is on its file
 abbrev pub is_on_file_of_pawn : Cells → Color → ℕ → ℕ → Bool
 is_on_file_of_pawn cells side square n = is_pawn side (piece_at cells square) && n / 9 == square / 9
 
@@ -46,15 +46,15 @@ abbrev pub has_two_pawns_on : Cells → ℕ → Bool
 has_two_pawns_on cells file =
     nat_lt 1 (pawns_on_file Black file cells) || nat_lt 1 (pawns_on_file White file cells)
 
--- a side has two unpromoted pawns on a file
+-- a side has two unpromoted pawns on one file
 abbrev pub has_two_pawns : Cells → Bool
 has_two_pawns cells = some_below 9 (has_two_pawns_on cells)
 
--- some piece could never move again
+-- a piece stands on a square from which it could never move again
 abbrev pub has_dead_piece : Cells → Bool
 has_dead_piece cells = some_below 81 (is_immobile_on cells)
 
--- the first fault, if there is one
+-- the first fault of a position, if it has one
 unfoldable pub fault_of : Shogi → Option PositionFault
 fault_of p =
     cond (has_too_many p.cells p.hands) (Some TooMany)
@@ -63,12 +63,12 @@ fault_of p =
     (cond (has_dead_piece p.cells) (Some DeadPiece)
     (cond (in_check p.cells (opponent_of p.side)) (Some KingOpen) None))))
 
--- these parts as a position where they have no fault, and else their first fault
+-- the result is the parts if they have no fault, else their first fault
 abbrev pub IsPositionOf : Shogi → Result Shogi PositionFault → Type 0
 IsPositionOf parts result =
     MatchOption (fault_of parts) (result ≡ Ok parts) (λ fault. result ≡ Err fault)
 
--- the number by which the host names a fault (own choice)
+-- the number that the host gives for a fault (own choice)
 abbrev pub number_of_fault : PositionFault → ℕ
 number_of_fault TooMany = 4
 number_of_fault TwoKings = 5
@@ -76,7 +76,7 @@ number_of_fault TwoPawns = 6
 number_of_fault DeadPiece = 7
 number_of_fault KingOpen = 8
 
--- a position without a fault
+-- a valid position: 81 cells, 14 counts in hand and no fault
 pub record IsValid (p : Shogi) : Type 0 where
   pub cells_fit : length p.cells ≡ 81
   pub hands_fit : length p.hands ≡ 14

@@ -7,22 +7,22 @@ use Rattle.shogi_core.specs.declared.piece.Role.{Role}
 use Rattle.shogi_core.specs.Movement.{Cells}
 use Rattle.shogi_core.specs.Same.{role_number}
 
--- from 1 a piece of Black, and from 15 one of White
+-- a number for each piece: Black's from 1 on, White's from 15 on
 abbrev pub piece_number : Color → Role → ℕ
 piece_number Black role = role_number role + 1
 piece_number White role = role_number role + 15
 
--- a number for what stands on a square: 0 where it is empty
+-- a number for what stands in a cell: 0 if it is empty
 abbrev pub cell_number : Option Piece → ℕ
 cell_number None = 0
 cell_number (Some piece) = piece_number piece.color piece.role
 
--- the number of these digits in base 32, the first the lowest. What stands on a square is a number from 0 to 28, so it is a digit; twelve digits of five bits fit in a word of 64 bits
+-- the number with these digits in base 32, the lowest first; a cell's number is at most 28, and twelve digits of five bits fit in 64 bits
 unfoldable pub number_in_base_32 : List ℕ → ℕ
 number_in_base_32 [] = 0
 number_in_base_32 (digit ∷ digits) = digit + 32 * number_in_base_32 digits
 
--- the word of the squares from the one up to the other, which it does not count
+-- the word of the cells from index `from` on and below `to`
 abbrev pub cells_word : Cells → ℕ → ℕ → ℕ
 cells_word cells from to = number_in_base_32 (map cell_number (slice_range cells from to))
 

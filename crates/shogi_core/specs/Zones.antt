@@ -6,7 +6,7 @@ use Rattle.shogi_core.specs.declared.piece.Role.{Role}
 use Rattle.shogi_core.specs.declared.piece.Role.TheVariants.{Pawn, Lance, Knight, Silver, Bishop, Rook}
 use Rattle.shogi_core.specs.declared.piece.Piece.{Piece}
 
--- a role that can promote
+-- the role has a promoted form
 abbrev pub is_promotable : Role → Bool
 is_promotable Pawn = true
 is_promotable Lance = true
@@ -21,19 +21,19 @@ abbrev pub in_promotion_zone : Color → ℕ → Bool
 in_promotion_zone Black square = nat_lt (square % 9) 3
 in_promotion_zone White square = nat_lt 5 (square % 9)
 
--- a piece that can promote may do so by a move that begins or ends in the zone
+-- what stands in the cell can promote, and the move begins or ends in the zone
 abbrev pub may_promote : Option Piece → ℕ → ℕ → Bool
 may_promote None from to = false
 may_promote (Some piece) from to =
     is_promotable piece.role
     && (in_promotion_zone piece.color from || in_promotion_zone piece.color to)
 
--- the square is in the zone in which the side promotes, or at most two ranks before it
+-- the square is in the side's promotion zone or on the two ranks before it
 abbrev pub is_near_zone : Color → ℕ → Bool
 is_near_zone Black square = nat_lt (square % 9) 5
 is_near_zone White square = nat_lt 3 (square % 9)
 
--- the other square is at most two files and four ranks away
+-- the squares are at most two files and four ranks apart
 abbrev pub is_around : ℕ → ℕ → Bool
 is_around square n =
     nat_lt (n / 9) (square / 9 + 3) && nat_lt (square / 9) (n / 9 + 3)
