@@ -1,4 +1,4 @@
--- A step or a slide from one square to another is one back.
+-- Each step or slide between two squares has an opposite one.
 use Rattle.std.proofs.Common.{◌≡◌, ℕ, ℤ, pos, negsuc, ◌+◌, ◌-◌, ◌*◌, ◌/◌, ◌%◌, ◌<◌, ◌+ℤ◌, ◌*ℤ◌, ◌-ℤ◌, Bool, true, false, refl, sym, ap, ◌∙◌, arith, inl, inr, Option, Some, None}
 use Rattle.std.specs.Prelude.{◌&&◌, nat_lt, zero, suc}
 use Rattle.std.proofs.lemmas.Int.{ints}
@@ -67,7 +67,7 @@ away_between k m o a b e =
     let rank : pos (b % 9) +ℤ pos m *ℤ (pos 0 -ℤ o.rank) ≡ pos (a % 9) +ℤ pos k *ℤ o.rank = omega (arith, ints, at.1, times_add k m o.rank, times_back m o.rank) in
     ap (λ f. square_at f (pos (b % 9) +ℤ pos m *ℤ (pos 0 -ℤ o.rank))) file ∙ ap (square_at (pos (a / 9) +ℤ pos k *ℤ o.file)) rank
 
--- m more steps from where k steps lead
+-- m more steps from the square k steps away lead k + m steps away
 pub away_on : (k m : ℕ) (o : Offset) (a x : ℕ) → away k o a ≡ Some x → away m o x ≡ away (k + m) o a
 unfolding away
 away_on k m o a x e =
@@ -76,7 +76,7 @@ away_on k m o a x e =
     let rank : pos (x % 9) +ℤ pos m *ℤ o.rank ≡ pos (a % 9) +ℤ pos (k + m) *ℤ o.rank = omega (arith, ints, at.1, times_add k m o.rank) in
     ap (λ f. square_at f (pos (x % 9) +ℤ pos m *ℤ o.rank)) file ∙ ap (square_at (pos (a / 9) +ℤ pos (k + m) *ℤ o.file)) rank
 
--- no step leads nowhere
+-- zero steps lead to the square itself
 pub away_none : (o : Offset) (a : ℕ) → a < 81 → away 0 o a ≡ Some a
 unfolding away
 away_none o a h =
@@ -95,7 +95,7 @@ twice x = omega (arith, ints)
 pub back_twice : (o : Offset) → back (back o) ≡ o
 back_twice o = ap (λ f. offset_by f (pos 0 -ℤ (pos 0 -ℤ o.rank))) (twice o.file) ∙ ap (offset_by o.file) (twice o.rank)
 
--- where n steps lead, by file and rank
+-- the file, the rank and the index n steps away
 pub away_is : (n : ℕ) (o : Offset) (a x : ℕ) → away n o a ≡ Some x → (pos (a / 9) +ℤ pos n *ℤ o.file ≡ pos (x / 9)) × (pos (a % 9) +ℤ pos n *ℤ o.rank ≡ pos (x % 9)) × (x < 81)
 unfolding away
 away_is n o a x e = found _ _ x e
@@ -117,7 +117,7 @@ same_test false false f g = refl
 pub all_below_turned : (n : ℕ) (s t : ℕ → Bool) → ((i : ℕ) → i < n → s i ≡ t (n - 1 - i)) → all_below n t ≡ true → all_below n s ≡ true
 all_below_turned n s t h e = all_below_yes n s (λ i l. h i l ∙ all_below_at n t (n - 1 - i) e (omega arith))
 
--- the squares between are those seen from the other end
+-- the squares between are empty as seen from either end
 clear_back : (cells : Cells) (o : Offset) (a b n i : ℕ) → i < n → away (n + 1) o a ≡ Some b → is_step_empty cells o a i ≡ is_step_empty cells (back o) b (n - 1 - i)
 clear_back cells o a b n i h e =
     let sum : i + 1 + (n - 1 - i + 1) ≡ n + 1 = omega arith in

@@ -12,7 +12,7 @@ pub all_below_none : (test : ℕ → Bool) → all_below 0 test ≡ true
 unfolding all_below
 all_below_none test = refl
 
--- one more number
+-- a bound raised by one adds one test
 pub some_below_more : (n : ℕ) (test : ℕ → Bool) → some_below (n + 1) test ≡ (some_below n test || test n)
 unfolding some_below
 some_below_more n test = rw add-one refl
@@ -24,7 +24,7 @@ last_is n i h g = omega arith
 at_last : (test : ℕ → Bool) (b : Bool) (n i : ℕ) → i ≡ n → test i ≡ b → test n ≡ b
 at_last test b n i e h = subst (λ (k : ℕ). test k ≡ b) e h
 
--- one that passes settles it
+-- some number below n passes if a given one does
 pub some_below_at : (n : ℕ) (test : ℕ → Bool) (i : ℕ) → i < n → test i ≡ true → some_below n test ≡ true
 unfolding some_below
 some_below_at zero test i h e = absurd (omega arith)
@@ -34,7 +34,7 @@ some_below_at (suc n) test i h e =
       | inr above ↦ or_right (some_below n test) (test n) (at_last test true n i (last_is n i h above) e)
     ]
 
--- where none passes, a given one does not
+-- no given number passes if none below n does
 pub some_below_not : (n : ℕ) (test : ℕ → Bool) (i : ℕ) → some_below n test ≡ false → i < n → test i ≡ false
 unfolding some_below
 some_below_not zero test i e h = absurd (omega arith)
@@ -44,7 +44,7 @@ some_below_not (suc n) test i e h =
       | inr above ↦ at_last test false i n (sym (last_is n i h above)) ((or_parts (some_below n test) (test n) e).1)
     ]
 
--- where each fails, none passes
+-- none below n passes if each fails
 pub some_below_no : (n : ℕ) (test : ℕ → Bool) → ((i : ℕ) → i < n → test i ≡ false) → some_below n test ≡ false
 unfolding some_below
 some_below_no zero test h = refl
@@ -64,6 +64,6 @@ unfolding all_below
 all_below_yes zero test h = refl
 all_below_yes (suc n) test h = and_from (all_below n test) (test n) (all_below_yes n test (λ i below. h i (omega arith))) (h n (omega arith))
 
--- what a loop answers once one passes
+-- a loop may answer true once a number passes
 pub some_below_found : (n : ℕ) (test : ℕ → Bool) (i : ℕ) → i < n → test i ≡ true → true ≡ some_below n test
 some_below_found n test i h e = sym (some_below_at n test i h e)

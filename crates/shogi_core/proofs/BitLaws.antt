@@ -1,4 +1,4 @@
--- Bits of a number as tests.
+-- Bits of numbers as tests, and the operations of the code on them.
 use Rattle.std.proofs.Common.{◌≡◌, ◌≢◌, ℕ, ◌+◌, ◌-◌, ◌*◌, ◌/◌, ◌%◌, ◌^◌, ◌<◌, ◌≤◌, Bool, true, false, cond, not, refl, sym, ap, ◌∙◌, arith, bit_and, bit_or, max, min, inl, inr, shr-shr}
 use Rattle.std.specs.Prelude.{zero, suc, ◌==◌, ◌&&◌, ◌||◌}
 use Rattle.std.specs.Int.{bit_at, w128}
@@ -40,7 +40,7 @@ pub has_bit-none : (n : ℕ) → has_bit 0 n ≡ false
 unfolding has_bit
 has_bit-none n = ap (λ x. x == 1) (bit_at-zero n)
 
--- no bit is set of a number that is 0
+-- zero has no bit set
 pub has_none : (squares n : ℕ) → squares ≡ 0 → has_bit squares n ≡ false
 has_none squares n none = ap (λ m. has_bit m n) none ∙ has_bit-none n
 
@@ -60,7 +60,7 @@ pub has_bit-shr : (m k n : ℕ) → has_bit (m / 2 ^ k) n ≡ has_bit m (k + n)
 unfolding has_bit
 has_bit-shr m k n = ap (λ x. x % 2 == 1) (shr-shr m k n)
 
--- a bit as a number
+-- a tested bit as the number 0 or 1
 pub bit_from : (m n : ℕ) (b : Bool) → has_bit m n ≡ b → bit_at m n ≡ cond b 1 0
 unfolding has_bit
 bit_from m n true e = eqb-true (bit_at m n) 1 e

@@ -1,4 +1,4 @@
--- What a position without a fault keeps to, rule by rule.
+-- The rules that a position without a fault keeps, one by one.
 use Rattle.std.specs.Prelude.{ℕ, ◌≡◌, ◌<◌, ◌≤◌, false, count_by}
 use Rattle.shogi_core.specs.declared.piece.Color.{Color}
 use Rattle.shogi_core.specs.declared.piece.Kind.{Kind}
@@ -8,7 +8,7 @@ use Rattle.shogi_core.specs.Attack.{in_check}
 use Rattle.shogi_core.specs.Cell.{is_king, is_immobile_on}
 use Rattle.shogi_core.specs.Validity.{count_of, pawns_on_file}
 
--- none of the five faults holds
+-- a position with none of the five faults
 pub record IsFaultless (p : Shogi) : Type 0 where
   pub counts : (kind : Kind) → count_of kind p.cells p.hands ≤ set_size kind
   pub kings : (color : Color) → count_by (is_king color) p.cells ≤ 1

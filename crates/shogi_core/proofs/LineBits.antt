@@ -1,4 +1,4 @@
--- The masks that slides are made of.
+-- Masks of slides: lines cut at the first piece.
 use Rattle.std.proofs.Common.{◌≡◌, Bool, ◌≢◌, ℕ, ◌+◌, ◌-◌, ◌*◌, ◌/◌, ◌^◌, ◌<◌, ◌≤◌, true, false, not, refl, sym, ap, ◌∙◌, arith, inl, inr, Option, Some, None, [], div-lt_iff_lt-mul, le-div_iff_mul-le, bit_and, bit_or, pow_pos, get_or}
 use Rattle.std.specs.Prelude.{◌==◌, ◌&&◌, ◌||◌, zero, suc, is_none}
 use Rattle.std.specs.Int.{bit_at, trailing_zeros, w128}
@@ -125,13 +125,13 @@ direction_falls (suc (suc (suc (suc (suc (suc (suc zero))))))) g h = omega (arit
 direction_falls (suc (suc (suc (suc (suc (suc (suc (suc d)))))))) g h = absurd (omega arith)
 
 module _ (cells : Cells) (o : Offset) (a occ : ℕ) (occupied : (n : ℕ) → n < 81 → has_bit occ n ≡ not (is_none (piece_at cells n))) where
-  -- a piece on the line has its bit
+  -- a piece on the line has its bit in the mask
   pub bit_there : (x : ℕ) → is_on_ray o a x ≡ true → is_none (piece_at cells x) ≡ false → has_bit (bit_and (ray_of o a) occ) x ≡ true
   bit_there x on taken =
       let low : x < 81 = on_board o a x on in
       has_bit-and (ray_of o a) occ x ∙ and_from _ _ (has_bit-ray o a x low ∙ on) (occupied x low ∙ ap not taken)
 
-  -- a bit is that of a piece on the line
+  -- a bit of the mask is a piece on the line
   pub there_bit : (x : ℕ) → x < 81 → has_bit (bit_and (ray_of o a) occ) x ≡ true → (is_on_ray o a x ≡ true) × (is_none (piece_at cells x) ≡ false)
   there_bit x low e =
       let parts : (has_bit (ray_of o a) x ≡ true) × (has_bit occ x ≡ true) = and_parts _ _ (sym (has_bit-and (ray_of o a) occ x) ∙ e) in
@@ -141,7 +141,7 @@ module _ (cells : Cells) (o : Offset) (a occ : ℕ) (occupied : (n : ℕ) → n 
   free_line none b h = has_bit-ray o a b h ∙ slides_free cells o a (λ x on. true_from_ne_false (is_none (piece_at cells x)) (λ taken.
       both_ways (has_bit (bit_and (ray_of o a) occ) x) (none x (on_board o a x on)) (bit_there x on taken))) b
 
-  -- a bit of the line's is below 81
+  -- bits of a line are below 81
   line_bit : (x : ℕ) → has_bit (bit_and (ray_of o a) occ) x ≡ true → x < 81
   line_bit x e = below_bits (ray_of o a) x (ray_fits o a) ((and_parts _ _ (sym (has_bit-and (ray_of o a) occ x) ∙ e)).0)
 
@@ -168,7 +168,7 @@ module _ (cells : Cells) (o : Offset) (a occ : ℕ) (occupied : (n : ℕ) → n 
     falling_line : falls o → ((n : ℕ) → has_bit (bit_and (ray_of o a) occ) n ≡ true → n ≤ f) → (b : ℕ) → b < 81 → has_bit (bit_and (ray_of o a) (2 ^ 128 - 1 - ray_of o f)) b ≡ slides cells o a b
     falling_line down greatest = cut_line (λ m n x ef ex e. nearer_down o a f x m n down ef ex (greatest x e)) (λ i j x ei ej. nearer_down o a x x i j down ei ej (omega arith))
 
-    -- the slide ends on the nearest
+    -- the slide ends at the nearest piece
     reached : (nearest : (m n x : ℕ) → away m o a ≡ Some f → away n o a ≡ Some x → has_bit (bit_and (ray_of o a) occ) x ≡ true → m ≤ n)
         → ((i j x : ℕ) → away i o a ≡ Some x → away j o a ≡ Some x → i ≤ j)
         → slides cells o a f ≡ true
@@ -191,7 +191,7 @@ module _ (cells : Cells) (o : Offset) (a occ : ℕ) (occupied : (n : ℕ) → n 
     pub highest_reached : falls o → ((n : ℕ) → has_bit (bit_and (ray_of o a) occ) n ≡ true → n ≤ f) → slides cells o a f ≡ true
     highest_reached down greatest = reached (λ m n x ef ex e. nearer_down o a f x m n down ef ex (greatest x e)) (λ i j x ei ej. nearer_down o a x x i j down ei ej (omega arith))
 
-  -- the highest bit of the line's and of bit 0, from where the line leads no further
+  -- the highest bit of a line and bit 0 together, from which the line is cut
   pub falling_bits : falls o → ray_of o 0 ≡ 0 → (f : ℕ) → f < 81 → has_bit (bit_or (bit_and (ray_of o a) occ) 1) f ≡ true → ((n : ℕ) → has_bit (bit_or (bit_and (ray_of o a) occ) 1) n ≡ true → n ≤ f)
       → (b : ℕ) → b < 81 → has_bit (bit_and (ray_of o a) (2 ^ 128 - 1 - ray_of o f)) b ≡ slides cells o a b
   falling_bits down end f low set greatest b h = elim (cases_Bool (has_bit (bit_and (ray_of o a) occ) f)) [
@@ -213,7 +213,7 @@ module _ (cells : Cells) (o : Offset) (a occ : ℕ) (occupied : (n : ℕ) → n 
       and_true true = refl
       and_true false = refl
 
--- no line in which indexes fall leads on from the square of index 0
+-- no line with falling indexes leads on from square 0
 pub falling_end : (d : ℕ) → 4 ≤ d → d < 8 → ray_of (direction_at d) 0 ≡ 0
 falling_end d low high = sym (rays_right d 0 high (omega arith)) ∙ zeroth d low high
   where

@@ -1,4 +1,4 @@
--- The table of squares on lines holds those to which lines lead in any direction.
+-- The table of aligned squares has the lines in all eight directions.
 use Rattle.std.proofs.Common.{◌≡◌, ℕ, ◌<◌, ◌%◌, ◌^◌, refl, ap, ◌∙◌, subst, sym, get_or, map, []}
 use Rattle.std.specs.List.{range_with_len}
 use Rattle.shogi_core.specs.Below.{all_below}
@@ -13,7 +13,7 @@ use Rattle.shogi_core.proofs.TableBits.{entry_at, mask_is, some_bits, has_bit-so
 abbrev line_bits_around : ℕ → ℕ
 line_bits_around a = some_bits (λ o. line_bits o a 8) around
 
--- the entry of each index
+-- the table's entry for a square
 abbrev entry : ℕ → ℕ
 entry a = line_bits_around a % 2 ^ 81
 

@@ -1,4 +1,4 @@
--- The lowest bit of a number, by what one less than the number is.
+-- The lowest set bit of m, from m and m - 1.
 use Rattle.std.proofs.Common.{◌≡◌, ◌≢◌, ℕ, ◌+◌, ◌-◌, ◌*◌, ◌/◌, ◌%◌, ◌^◌, ◌<◌, ◌≤◌, Bool, true, false, not, refl, sym, ap, ◌∙◌, arith, bit_and, min, inl, inr, pow_pos}
 use Rattle.std.specs.Prelude.{zero, suc, ◌==◌, ◌&&◌, ◌||◌, bit_xor}
 use Rattle.std.specs.Int.{bit_at, trailing_zeros, w128}
@@ -141,7 +141,7 @@ pub ruleset low_bits = (up_to_bits, without_bits, without_less, some_bit)
 
 -- ---- the bits above a place
 
--- the one bit that is set in a mask of one
+-- a mask of one square has its bit
 one_set : (m n i : ℕ) → ((j : ℕ) → has_bit m j ≡ (has_bit 0 j || (j == n))) → i ≡ n → has_bit m i ≡ true
 one_set m n i bits same = bits i ∙ or_right (has_bit 0 i) (i == n) (eq-eqb i n same)
 

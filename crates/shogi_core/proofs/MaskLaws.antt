@@ -1,4 +1,4 @@
--- Masks of a board.
+-- The masks of a board follow its cells.
 use Rattle.std.proofs.Common.{◌≡◌, ℕ, ◌+◌, ◌*◌, ◌^◌, ◌%◌, ◌<◌, Bool, true, false, cond, not, refl, sym, ap, ◌∙◌, arith, bit_or, bit_and, length, inl, inr, Option, Some, None, add-one, set}
 use Rattle.std.specs.Prelude.{◌==◌, ◌&&◌, ◌||◌}
 use Rattle.std.proofs.lemmas.Nat.{or_shifted, or_comm, one_shl, and_le_l}
@@ -17,7 +17,7 @@ pub mask_none : (test : ℕ → Bool) → mask_below 0 test ≡ 0
 unfolding mask_below
 mask_none test = refl
 
--- one more number
+-- setting bit n extends the mask by a passing square
 pub mask_on : (n : ℕ) (test : ℕ → Bool) → n < 128 → test n ≡ true → bit_or (mask_below n test) (1 * 2 ^ n % 2 ^ 128) ≡ mask_below (n + 1) test
 unfolding mask_below
 mask_on n test h e =
@@ -32,12 +32,12 @@ module _ (test : Option Piece → Bool) where
   unfolding places_of
   places_fit cells = mask_fits 81 (passes test cells)
 
-  -- bit n is set exactly where the test passes on square n
+  -- bit n is set if and only if the cell of square n passes the test
   pub has_bit-places : (cells : Cells) (n : ℕ) → n < 81 → has_bit (places_of test cells) n ≡ test (piece_at cells n)
   unfolding places_of
   has_bit-places cells n h = has_bit-mask 81 (passes test cells) n h
 
-  -- a mask with the one bit set or clear is that of the cells after the write
+  -- a mask with one bit set or cleared is the mask of the cells after the write
   pub places_put : (m s : ℕ) (cells : Cells) (piece : Option Piece) → length cells ≡ 81 → s < 81 → m < 2 ^ 128
       → ((n : ℕ) → has_bit m n ≡ cond (n == s) (test piece) (has_bit (places_of test cells) n)) → m ≡ places_of test (set cells s piece)
   places_put m s cells piece len h fits bits =

@@ -13,7 +13,7 @@ use Rattle.shogi_core.proofs.Discovered.{some_below_which}
 use Rattle.shogi_core.proofs.LineBits.{and_fits, bit_there, there_bit, lowest_reached, highest_reached, direction_rises, direction_falls}
 use Rattle.shogi_core.proofs.RayLaws.{slides_bare}
 
--- a piece nearer than the end of a slide is not passed
+-- a slide does not pass a piece before its end
 not_nearer : (cells : Cells) (o : Offset) (s a b i j : ℕ) → i < j → slides_across cells o s a i ≡ true → slides_across cells o s b j ≡ true → is_none (piece_at cells a) ≡ false → false ≡ true
 not_nearer cells o s a b i j l e f taken =
     let here : away (i + 1) o s ≡ Some a = leads_is _ a ((and_parts _ _ e).0) in
@@ -22,7 +22,7 @@ not_nearer cells o s a b i j l e f taken =
 some_same : (s : Option ℕ) (a b : ℕ) → s ≡ Some a → s ≡ Some b → a ≡ b
 some_same s a b e f = let both : Some a ≡ Some b = sym e ∙ f in cc
 
--- a slide ends at one piece
+-- a direction has one first piece
 pub one_piece : (cells : Cells) (o : Offset) (s a b : ℕ) → slides cells o s a ≡ true → slides cells o s b ≡ true → is_none (piece_at cells a) ≡ false → is_none (piece_at cells b) ≡ false → a ≡ b
 one_piece cells o s a b e f p q =
     let i = some_below_which 8 (slides_across cells o s a) e in
@@ -36,7 +36,7 @@ one_piece cells o s a b e f p q =
     ]
 
 module _ (cells : Cells) (d a line occ : ℕ) (range : d < 8) (there : line ≡ ray_of (direction_at d) a) (occupied : (n : ℕ) → n < 81 → has_bit occ n ≡ not (is_none (piece_at cells n))) where
-  -- no piece stands on the line
+  -- a line without a bit of the occupied squares is open
   pub no_piece : bit_and line occ ≡ 0 → (n : ℕ) → slides cells (direction_at d) a n ≡ true → is_none (piece_at cells n) ≡ true
   no_piece none n e = true_from_ne_false (is_none (piece_at cells n)) (λ taken. both_ways (has_bit (bit_and (ray_of (direction_at d) a) occ) n)
       (ap (λ (m : ℕ). has_bit (bit_and m occ) n) (sym there) ∙ (ap (λ (m : ℕ). has_bit m n) none ∙ has_bit-none n))

@@ -18,7 +18,7 @@ pub start_fine : fault_of start ≡ None
 unfolding fault_of some_below all_below reaches away in_check
 start_fine = refl
 
--- its masks
+-- the opening masks are those of its cells
 pub start_black : START_BLACK ≡ own_of start_cells Black
 unfolding places_of mask_below
 start_black = refl
@@ -35,12 +35,12 @@ pub start_sliders : START_SLIDERS ≡ sliders_of start_cells
 unfolding places_of mask_below
 start_sliders = refl
 
--- its words
+-- the opening words are those of its cells
 pub start_words : START_WORDS ≡ board_words start_cells
 unfolding number_in_base_32
 start_words = refl
 
--- the cells of a file set
+-- the cells after one file is filled
 abbrev pub with_file : Cells → ℕ → Cells
 with_file cells file =
     let role : Role = get_or BACK_RANK file King in
@@ -49,7 +49,7 @@ with_file cells file =
     let three : Cells = set two (9 * file + 6) (cell_with Black Pawn) in
     set three (9 * file + 8) (cell_with Black role)
 
--- the cells of the first files set
+-- the cells after the first files are filled
 unfoldable pub files_set : ℕ → Cells
 files_set zero = replicate 81 None
 files_set (suc file) = with_file (files_set file) file

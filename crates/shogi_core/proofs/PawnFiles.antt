@@ -1,4 +1,4 @@
--- The files on which a side has an unpromoted pawn.
+-- Files with an unpromoted pawn of a side.
 use Rattle.std.proofs.Common.{◌≡◌, ℕ, ◌<◌, ◌+◌, ◌-◌, ◌*◌, ◌/◌, ◌%◌, ◌≤◌, min, Bool, true, false, not, List, Option, None, Some, refl, sym, ap, ◌∙◌, arith, get_or, subst, length, take, drop, bit_and, bit_or, ◌^◌, inl, inr}
 use Rattle.std.specs.Prelude.{◌&&◌, ◌==◌, nat_lt}
 use Rattle.std.proofs.lemmas.Bool.{both_ways, cases_Bool, eq-eqb, false_from_ne_true, lt-ltb, le-ltb, eqb-true, and_from, and_parts}
@@ -51,7 +51,7 @@ pawn_own : (side : Color) (cell : Option Piece) → is_pawn side cell ≡ true �
 pawn_own side None e = e
 pawn_own side (Some piece) e = (and_parts (is_same_color side piece.color) (is_pawn_role piece.role) e).0
 
--- it does not slide, and is no king
+-- an unpromoted pawn is neither a slider nor a king
 pawn_steps : (side : Color) (cell : Option Piece) → is_pawn side cell ≡ true → (is_slider cell ≡ false) × (is_king side cell ≡ false)
 pawn_steps side None e = absurd (cc)
 pawn_steps side (Some piece) e = go (is_same_color side piece.color) piece.role (and_parts (is_same_color side piece.color) (is_pawn_role piece.role) e).1
@@ -61,7 +61,7 @@ pawn_steps side (Some piece) e = go (is_same_color side piece.color) piece.role 
     go false roles.Pawn h = (refl, refl)
     go mine _ h = absurd (cc)
 
--- a pawn is among them
+-- an unpromoted pawn's square is among the squares that are looked at
 stepper : (cells : Cells) (side : Color) (own sliders kings n : ℕ) → bit_or sliders kings < 2 ^ 128 → n < 81 → has_bit own n ≡ is_piece_of side (piece_at cells n) → has_bit sliders n ≡ is_slider (piece_at cells n) → has_bit kings n ≡ is_king side (piece_at cells n)
     → is_pawn side (piece_at cells n) ≡ true → has_bit (bit_and own (2 ^ 128 - 1 - bit_or sliders kings)) n ≡ true
 stepper cells side own sliders kings n fits h owns slides crowns e =
@@ -70,7 +70,7 @@ stepper cells side own sliders kings n fits h owns slides crowns e =
     has_bit-and own (2 ^ 128 - 1 - bit_or sliders kings) n
     ∙ and_from _ _ (owns ∙ pawn_own side (piece_at cells n) e) (has_bit-not (bit_or sliders kings) n fits (omega arith) ∙ ap not off)
 
--- the squares of the file of a pawn, and none of another piece
+-- the mask of a pawn's file
 pub its_file : (pawn : Bool) (k n : ℕ) → pawn ≡ true → k < 81 → n < 81 → has_bit (get_or FILES (k / 9) 0) n ≡ (pawn && n / 9 == k / 9)
 its_file pawn k n e hk hn = rw e (files_right (k / 9) n (omega arith) hn)
 

@@ -1,4 +1,4 @@
--- A piece whose leaving would give check stands alone between a king and a sniper.
+-- A piece whose leaving gives check stands alone between a king and a sniper.
 use Rattle.std.proofs.Common.{◌≡◌, ◌⊎◌, ℕ, ◌+◌, ◌<◌, ◌^◌, Bool, true, false, not, refl, sym, ap, subst, ◌∙◌, arith, inl, inr, Option, Some, None, bit_and, bit_or, set, length, get_or-set_same, get_or-set_other, []}
 use Rattle.std.specs.Prelude.{◌==◌, ◌&&◌, ◌||◌, is_none}
 use Rattle.std.proofs.lemmas.Nat.{or_lt}
@@ -49,7 +49,7 @@ module _ (cells : Cells) (side : Color) (square d n a : ℕ) (pin : is_pinned_by
   pub pin_far : slides cells (direction_at d) n a ≡ true
   pin_far = (and_parts _ _ pin).1
 
--- a piece of the one side is none of the other's
+-- a piece of one side is not a piece of the other
 not_both : (side : Color) (cell : Option Piece) → is_piece_of (opponent_of side) cell ≡ true → is_piece_of side cell ≡ false
 not_both side None e = refl
 not_both side (Some piece) e = go side piece.color e
@@ -63,7 +63,7 @@ not_both side (Some piece) e = go side piece.color e
 no_bit : (m n : ℕ) → m ≡ 0 → has_bit m n ≡ true → false ≡ true
 no_bit m n none e = sym (has_bit-none n) ∙ (ap (λ (k : ℕ). has_bit k n) (sym none) ∙ e)
 
--- nothing is pinned on a line on which no piece stands
+-- an open line has no pinned piece
 pub none_on_line : (cells : Cells) (side : Color) (square d : ℕ) → ((n : ℕ) → slides cells (direction_at d) square n ≡ true → is_none (piece_at cells n) ≡ true)
     → (found n a : ℕ) → is_pinned_by cells side square (direction_at d) n a ≡ true → has_bit found n ≡ true
 none_on_line cells side square d free found n a pin = absurd (both_ways (is_none (piece_at cells n)) (some_of side (piece_at cells n) (pin_own cells side square d n a pin)) (free n (pin_near cells side square d n a pin)))
@@ -74,11 +74,11 @@ module _ (cells : Cells) (side : Color) (square d snipers : ℕ) (shots : (b : �
       (has_bit-and (ray_of (direction_at d) square) snipers a ∙ and_from _ _ (has_bit-ray (direction_at d) square a h ∙ pin_ray cells side square d n a pin) (shots a h ∙ pin_sniper cells side square d n a pin)) in cc)
 
   module _ (f : ℕ) (inside : f < 81) (line : slides cells (direction_at d) square f ≡ true) (piece : is_none (piece_at cells f) ≡ false) where
-    -- what is pinned is the first piece
+    -- the pinned piece is the first in the direction
     pub pinned_first : (n a : ℕ) → is_pinned_by cells side square (direction_at d) n a ≡ true → n ≡ f
     pinned_first n a pin = one_piece cells (direction_at d) square n f (pin_near cells side square d n a pin) line (some_of side (piece_at cells n) (pin_own cells side square d n a pin)) piece
 
-    -- the first piece is one of the other side's
+    -- nothing is pinned if the first piece is the opponent's
     pub others_not_pinned : is_piece_of side (piece_at cells f) ≡ false → (found n a : ℕ) → is_pinned_by cells side square (direction_at d) n a ≡ true → has_bit found n ≡ true
     others_not_pinned other found n a pin = absurd (both_ways (is_piece_of side (piece_at cells f)) other
         (ap (λ (k : ℕ). is_piece_of side (piece_at cells k)) (sym (pinned_first n a pin)) ∙ pin_own cells side square d n a pin))
@@ -91,18 +91,18 @@ module _ (cells : Cells) (side : Color) (square d snipers : ℕ) (shots : (b : �
     pin_beyond : (n a : ℕ) → is_pinned_by cells side square (direction_at d) n a ≡ true → slides cells (direction_at d) f a ≡ true
     pin_beyond n a pin = ap (λ (k : ℕ). slides cells (direction_at d) k a) (sym (pinned_first n a pin)) ∙ pin_far cells side square d n a pin
 
-    -- no piece beyond the first
+    -- nothing is pinned if no piece stands beyond the first
     pub none_beyond : ((n : ℕ) → slides cells (direction_at d) f n ≡ true → is_none (piece_at cells n) ≡ true) → (found n a : ℕ) → is_pinned_by cells side square (direction_at d) n a ≡ true → has_bit found n ≡ true
     none_beyond free found n a pin = absurd (both_ways (is_none (piece_at cells a)) (pin_there cells side square d n a pin) (free a (pin_beyond n a pin)))
 
-    -- the second piece is no sniper
+    -- nothing is pinned if the second piece is no sniper
     pub no_sniper_next : (s : ℕ) → slides cells (direction_at d) f s ≡ true → is_none (piece_at cells s) ≡ false → has_bit snipers s ≡ false
         → (found n a : ℕ) → a < 81 → is_pinned_by cells side square (direction_at d) n a ≡ true → has_bit found n ≡ true
     no_sniper_next s further there clear found n a h pin =
         let same : a ≡ s = one_piece cells (direction_at d) f a s (pin_beyond n a pin) further (pin_there cells side square d n a pin) there in
         absurd (both_ways (has_bit snipers s) clear (ap (has_bit snipers) (sym same) ∙ (shots a h ∙ pin_sniper cells side square d n a pin)))
 
-    -- the mask gets the first piece
+    -- the mask with the first piece added has all that is pinned in the direction
     pub first_marked : (old new : ℕ) → ((i : ℕ) → has_bit new i ≡ (has_bit old i || i == f)) → (n a : ℕ) → is_pinned_by cells side square (direction_at d) n a ≡ true → has_bit new n ≡ true
     first_marked old new bits n a pin = bits n ∙ or_right (has_bit old n) (n == f) (eq-eqb n f (pinned_first n a pin))
 
@@ -125,7 +125,7 @@ unmarked_fits old new f fits wide bits =
 
 -- ---- all directions
 
--- the mask has what is pinned in the first directions
+-- `found` has all that is pinned in the first `count` directions
 pub record PinsTo (cells : Cells) (side : Color) (square count found : ℕ) : Type 0 where
   pub all : (d n a : ℕ) → d < count → n < 81 → a < 81 → is_pinned_by cells side square (direction_at d) n a ≡ true → has_bit found n ≡ true
 
@@ -149,7 +149,7 @@ pub ruleset unpinned = (no_pins)
 
 -- ---- all kings
 
--- the mask has what is pinned to the kings that are not left
+-- `found` has all that is pinned to kings no longer in `left`
 pub record Pins (cells : Cells) (side : Color) (left found : ℕ) : Type 0 where
   pub all : (k d n a : ℕ) → k < 81 → is_king side (piece_at cells k) ≡ true → has_bit left k ≡ false → d < 8 → n < 81 → a < 81 → is_pinned_by cells side k (direction_at d) n a ≡ true → has_bit found n ≡ true
 
@@ -176,7 +176,7 @@ module _ (cells : Cells) (side : Color) (n : ℕ) (inside : n < length cells) (l
   opened : (x : ℕ) → is_none (piece_at (set cells n None) x) ≡ true → (is_none (piece_at cells x) ≡ true) ⊎ (x ≡ n)
   opened x e = elim (cases_eq x n) [ inl here ↦ inr here | inr other ↦ inl (ap is_none (sym (get_or-set_other cells n x None None other)) ∙ e) ]
 
-  -- who stands there after it stood there before
+  -- lifting a piece off adds no other: what stands on a square stood there before
   there : (test : Option Piece → Bool) → test None ≡ false → (x : ℕ) → test (piece_at (set cells n None) x) ≡ true → piece_at (set cells n None) x ≡ piece_at cells x
   there test none x e = elim (cases_eq x n) [
     | inl here ↦ absurd (both_ways (test None) none (ap test (sym (lifted_at x here)) ∙ e))

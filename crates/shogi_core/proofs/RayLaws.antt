@@ -1,4 +1,4 @@
--- Slides by masks: up to the first piece on the line, and that piece's square.
+-- Slides as masks: a line up to its first piece.
 use Rattle.std.proofs.Common.{◌≡◌, ℕ, ℤ, pos, ◌+◌, ◌-◌, ◌/◌, ◌%◌, ◌<◌, ◌≤◌, ◌+ℤ◌, ◌*ℤ◌, ◌<ℤ◌, Bool, true, false, not, refl, sym, ap, ◌∙◌, arith, inl, inr, Option, Some, None, []}
 use Rattle.std.specs.Prelude.{◌&&◌, zero, suc, is_none}
 use Rattle.std.proofs.lemmas.Int.{ints}
@@ -15,11 +15,11 @@ use Rattle.shogi_core.proofs.Discovered.{some_below_which}
 abbrev pub rises : Offset → Type 0
 rises o = pos 0 <ℤ (pos 9 *ℤ o.file +ℤ o.rank)
 
--- they fall in it
+-- indexes fall in the direction
 abbrev pub falls : Offset → Type 0
 falls o = (pos 9 *ℤ o.file +ℤ o.rank) <ℤ pos 0
 
--- n steps change the index by this
+-- the change of the index after n steps
 abbrev change : Offset → ℕ → ℤ
 change o n = pos 9 *ℤ (pos n *ℤ o.file) +ℤ pos n *ℤ o.rank
 
@@ -27,7 +27,7 @@ change_more : (o : Offset) (n : ℕ) → rises o → pos 0 <ℤ change o (suc n)
 change_more o zero up = omega (arith, ints, one_more 0 o.file, one_more 0 o.rank, times_zero o.file, times_zero o.rank)
 change_more o (suc n) up = omega (arith, ints, one_more (suc n) o.file, one_more (suc n) o.rank, change_more o n up)
 
--- of two squares in the direction, the one of the lower index is nearer
+-- with rising indexes, the square of lower index is nearer
 pub nearer : (o : Offset) (a x y m n : ℕ) → rises o → away m o a ≡ Some x → away n o a ≡ Some y → x ≤ y → m ≤ n
 nearer o a x y m n up ex ey low = elim (cases_lt n m) [
   | inr le ↦ le
@@ -46,7 +46,7 @@ change_less : (o : Offset) (n : ℕ) → falls o → change o (suc n) <ℤ pos 0
 change_less o zero down = omega (arith, ints, one_more 0 o.file, one_more 0 o.rank, times_zero o.file, times_zero o.rank)
 change_less o (suc n) down = omega (arith, ints, one_more (suc n) o.file, one_more (suc n) o.rank, change_less o n down)
 
--- of two squares in a direction in which indexes fall, the one of the higher index is nearer
+-- with falling indexes, the square of higher index is nearer
 pub nearer_down : (o : Offset) (a x y m n : ℕ) → falls o → away m o a ≡ Some x → away n o a ≡ Some y → y ≤ x → m ≤ n
 nearer_down o a x y m n down ex ey low = elim (cases_lt n m) [
   | inr le ↦ le
@@ -60,7 +60,7 @@ nearer_down o a x y m n down ex ey low = elim (cases_lt n m) [
       omega (arith, ints, to_x.0, to_x.1, to_y.0, to_y.1))
 ]
 
--- an empty board has only empty squares
+-- a square that is empty on a board is empty on the empty board
 clear_of : (cells : Cells) (o : Offset) (a i : ℕ) → is_step_empty cells o a i ≡ true → is_step_empty [] o a i ≡ true
 clear_of cells o a i e = go (away (i + 1) o a) e
   where
@@ -68,12 +68,12 @@ clear_of cells o a i e = go (away (i + 1) o a) e
     go None e = e
     go (Some x) e = refl
 
--- the squares on the way, up to one that is on the line
+-- a prefix of an open way is open
 prefix : (n m : ℕ) (test : ℕ → Bool) → all_below n test ≡ true → m ≤ n → all_below m test ≡ true
 prefix n m test e l = all_below_yes m test (λ i h. all_below_at n test i e (omega arith))
 
 module _ (cells : Cells) (o : Offset) (a : ℕ) where
-  -- the square on the way, and that it is on the line
+  -- each square on the way lies on the line
   way : (n i : ℕ) → n < 8 → i < n → all_below n (is_step_empty [] o a) ≡ true → (x : ℕ) × (away (i + 1) o a ≡ Some x) × (is_on_ray o a x ≡ true)
   way n i h l clear = go (away (i + 1) o a) refl (all_below_at n (is_step_empty [] o a) i clear l)
     where
@@ -81,7 +81,7 @@ module _ (cells : Cells) (o : Offset) (a : ℕ) where
       go None at e = absurd (cc)
       go (Some x) at e = (x, at, some_below_at 8 (slides_across [] o a x) i (omega arith) (and_from _ _ (is_leads _ x at) (prefix n i (is_step_empty [] o a) clear (omega arith))))
 
-  -- a slide over an empty board, where the squares on the way are empty
+  -- a slide over the empty board is one on this board, if the squares on the way are empty here
   slides_over : (b n : ℕ) → n < 8 → slides_across [] o a b n ≡ true → ((i : ℕ) → i < n → is_step_empty cells o a i ≡ true) → slides cells o a b ≡ true
   slides_over b n h past clear =
       let parts : (leads (n + 1) o a b ≡ true) × (all_below n (is_step_empty [] o a) ≡ true) = and_parts _ _ past in
@@ -93,7 +93,7 @@ module _ (cells : Cells) (o : Offset) (a : ℕ) where
       let parts : (leads (which.0 + 1) o a b ≡ true) × (all_below which.0 (is_step_empty cells o a) ≡ true) = and_parts _ _ which.2 in
       some_below_at 8 (slides_across [] o a b) which.0 which.1 (and_from _ _ parts.0 (all_below_yes which.0 (is_step_empty [] o a) (λ i l. clear_of cells o a i (all_below_at which.0 (is_step_empty cells o a) i parts.1 l))))
 
-  -- no piece on the line: the slide reaches all of it
+  -- a slide reaches the whole line if no piece is on it
   pub slides_free : ((x : ℕ) → is_on_ray o a x ≡ true → is_none (piece_at cells x) ≡ true) → (b : ℕ) → is_on_ray o a b ≡ slides cells o a b
   slides_free free b = same_test (is_on_ray o a b) (slides cells o a b) forth (slides_bare b)
     where
@@ -105,7 +105,7 @@ module _ (cells : Cells) (o : Offset) (a : ℕ) where
           let on = way which.0 i which.1 l parts.1 in
           ap (is_empty cells) on.1 ∙ free on.0 on.2))
 
-  -- the first piece stands on f: the slide reaches what is on the line and not beyond f
+  -- a slide reaches the line up to the first piece, which is on f
   module _ (f n : ℕ) (small : n < 8) (past : slides_across [] o a f n ≡ true) (taken : is_none (piece_at cells f) ≡ false)
       (first : (m x : ℕ) → m < 8 → away (m + 1) o a ≡ Some x → is_on_ray o a x ≡ true → is_none (piece_at cells x) ≡ false → n ≤ m)
       (apart : (i j x : ℕ) → away i o a ≡ Some x → away j o a ≡ Some x → i ≤ j) where
@@ -146,7 +146,7 @@ module _ (cells : Cells) (o : Offset) (a : ℕ) where
             let clear : is_step_empty cells o a n ≡ true = all_below_at which.0 (is_step_empty cells o a) n parts.1 (omega arith) in
             both_ways (is_none (piece_at cells f)) taken (ap (is_empty cells) (sym at_first) ∙ clear))))
 
-  -- indexes rise: the slide reaches what is on the line with no piece on it of lower index
+  -- with rising indexes, a slide reaches the squares of the line with no piece of lower index on it
   module _ (up : rises o) (taken : ℕ → Bool)
       (pieces : (x : ℕ) → is_on_ray o a x ≡ true → taken x ≡ not (is_none (piece_at cells x)))
       (on_line : (x : ℕ) → taken x ≡ true → is_on_ray o a x ≡ true) where

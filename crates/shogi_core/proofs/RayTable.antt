@@ -1,4 +1,4 @@
--- The table of lines holds the squares to which steps lead.
+-- The table of lines has the squares that steps in each direction reach.
 use Rattle.std.proofs.Common.{◌≡◌, ℕ, ◌+◌, ◌*◌, ◌/◌, ◌%◌, ◌^◌, ◌<◌, refl, ◌∙◌, arith, get_or, map}
 use Rattle.std.specs.List.{range_with_len}
 use Rattle.shogi_core.specs.Below.{all_below}
@@ -7,7 +7,7 @@ use Rattle.shogi_core.specs.Rays.{ray_of, direction_at, is_on_ray}
 use Rattle.shogi_core.specs.declared.ray_table.TheConstants.{RAYS}
 use Rattle.shogi_core.proofs.TableBits.{entry_at, mask_is, line_bits, has_bit-line}
 
--- the entry of each index
+-- the table's entry for an index
 abbrev entry : ℕ → ℕ
 entry i = line_bits (direction_at (i / 81)) (i % 81) 8 % 2 ^ 81
 

@@ -1,4 +1,4 @@
--- A move that gives no check.
+-- Moves that give no check.
 use Rattle.std.proofs.Common.{◌≡◌, ℕ, ◌<◌, ◌⊎◌, true, false, ap, subst, ◌∙◌, inl, inr}
 use Rattle.std.specs.Prelude.{is_none}
 use Rattle.std.proofs.lemmas.Bool.{false_from_ne_true, both_ways, and_from}
@@ -12,7 +12,7 @@ use Rattle.shogi_core.proofs.Below.{some_below_not}
 use Rattle.shogi_core.proofs.Discovered.{check_was_but, reach_was}
 
 module _ (old new : Cells) (Left : ℕ → Type 0) (opened : (x : ℕ) → is_none (piece_at new x) ≡ true → (is_none (piece_at old x) ≡ true) ⊎ Left x) where
-  -- where the new piece is seen from no king of the side, and none is discovered, the side is in no check
+  -- a move gives no check if the moved piece reaches no king and no square that was left is on an open line with one
   pub no_check : (color : Color) (to : ℕ) → to < 81
       → ((a : ℕ) → is_piece_of (opponent_of color) (piece_at new a) ≡ true → (piece_at old a ≡ piece_at new a) ⊎ (a ≡ to))
       → ((k : ℕ) → is_king color (piece_at new k) ≡ true → piece_at old k ≡ piece_at new k)

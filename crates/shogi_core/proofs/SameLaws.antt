@@ -15,7 +15,7 @@ use Rattle.shogi_core.specs.declared.piece.Piece.{Piece}
 use Rattle.shogi_core.specs.declared.piece.Role.{Role}
 use Rattle.shogi_core.specs.declared.piece.Role.TheVariants as role
 
--- two tests joined decide what the parts decide
+-- a conjunction of two tests decides the conjunction of their facts
 pub both_decide : (a b : Bool) (P Q R : Type 0) → Decides a P → Decides b Q → (P → Q → R) → (R → P × Q) → Decides (a && b) R
 both_decide true true P Q R p q join split = ((λ _. join (p.0 refl) (q.0 refl)), (λ _. refl))
 both_decide true false P Q R p q join split = ((λ e. cc), (λ r. q.1 (split r).1))
@@ -27,7 +27,7 @@ color_same Black White = ((λ e. cc), (λ e. cc))
 color_same White Black = ((λ e. cc), (λ e. cc))
 color_same White White = ((λ _. refl), (λ _. refl))
 
--- the role of a number
+-- the role with this number
 abbrev role_at : ℕ → Role
 role_at n = slice_index_or (role.King ∷ role.Pawn ∷ role.Lance ∷ role.Knight ∷ role.Silver ∷ role.Gold ∷ role.Bishop ∷ role.Rook
     ∷ role.PromotedPawn ∷ role.PromotedLance ∷ role.PromotedKnight ∷ role.PromotedSilver ∷ role.Horse ∷ role.Dragon ∷ []) n role.King
@@ -57,7 +57,7 @@ cell_same (Some a) None = ((λ e. cc), (λ e. cc))
 cell_same (Some a) (Some b) = let pieces = piece_same a b in
     ((λ e. ap (λ (x : Piece). Some x) (pieces.0 e)), (λ e. let same : a ≡ b = cc in pieces.1 same))
 
--- two positions are equal where their parts are, and only there
+-- tests of the parts decide the equality of positions
 pub parts_decide : (a b : Shogi) (cells hands side : Bool) → Decides cells (a.cells ≡ b.cells) → Decides hands (a.hands ≡ b.hands)
     → Decides side (a.side ≡ b.side) → Decides (cells && (hands && side)) (a ≡ b)
 parts_decide a b cells hands side x y z =
@@ -66,12 +66,12 @@ parts_decide a b cells hands side x y z =
     (λ c p. ap₂ (λ (f : HandCounts → Color → Shogi) (h : HandCounts). f h a.side) (ap position_of c) p.0 ∙ ap (position_of b.cells b.hands) p.1)
     (λ e. (ap (λ (x : Shogi). x.cells) e, (ap (λ (x : Shogi). x.hands) e, ap (λ (x : Shogi). x.side) e)))
 
--- the test of positions decides equality
+-- `is_same_position` decides the equality of positions
 pub position_same : (a b : Shogi) → Decides (is_same_position a b) (a ≡ b)
 unfolding is_same_position
 position_same a b = parts_decide a b _ _ _ (slice_eq-Decides cell_same a.cells b.cells _ refl) (slice_eq-Decides Decides-eqb a.hands b.hands _ refl) (color_same a.side b.side)
 
--- optional values are compared as their values are
+-- a test of values gives a test of optional values
 pub option_same : {T : Type 0} {E : T → T → Bool} → ((a b : T) → Decides (E a b) (a ≡ b)) → (a b : Option T) → Decides (option_eq E a b) (a ≡ b)
 option_same same None None = ((λ _. refl), (λ _. refl))
 option_same same None (Some b) = ((λ e. cc), (λ e. cc))

@@ -1,4 +1,4 @@
--- A square that a piece reaches is one from which its square is seen.
+-- A piece that attacks a square stands where that square's queen-and-knight view looks.
 use Rattle.std.proofs.Common.{◌≡◌, ◌⊎◌, ℕ, pos, negsuc, ◌-◌, ◌*◌, ◌%◌, ◌^◌, ◌<◌, Bool, true, false, not, refl, sym, ap, ◌∙◌, arith, inl, inr, Option, Some, None, bit_and, bit_or, List, [], ◌∷◌, ◌++◌}
 use Rattle.std.specs.Prelude.{◌==◌, ◌&&◌, ◌||◌}
 use Rattle.std.specs.List.{list_any, list_all}
@@ -73,7 +73,7 @@ steps_back_near Black _ = refl
 steps_back_near White King = refl
 steps_back_near White _ = refl
 
--- lines run both ways
+-- open lines run both ways
 pub lined_back : (cells : Cells) (a b : ℕ) → a < 81 → are_lined cells a b ≡ true → are_lined cells b a ≡ true
 unfolding are_lined
 lined_back cells a b h e =
@@ -138,7 +138,7 @@ slides_role PromotedSilver test e = absurd (cc)
 slides_role Horse test e = refl
 slides_role Dragon test e = refl
 
--- whatever stands on a, where it reaches b: it is near, or a slider on an open line
+-- an attacker of b on a is near b, or is a slider on an open line with b
 cell_near : (cells : Cells) (cell : Option Piece) (a b : ℕ) → a < 81 → cell_reaches cells cell a b ≡ true → (is_near b a ≡ true) ⊎ ((is_slider cell ≡ true) × (are_lined cells b a ≡ true))
 cell_near cells None a b h e = absurd (cc)
 cell_near cells (Some piece) a b h e = elim (or_cases (has_step piece a b) (has_slide cells piece a b) e) [
@@ -150,12 +150,12 @@ pub reaches_near : (cells : Cells) (a b : ℕ) → a < 81 → reaches cells a b 
 unfolding reaches
 reaches_near cells a b h e = cell_near cells (piece_at cells a) a b h e
 
--- an open line is a line
+-- squares on an open line are aligned
 pub lined_aligned : (cells : Cells) (a b : ℕ) → are_lined cells a b ≡ true → are_aligned a b ≡ true
 unfolding are_lined
 lined_aligned cells a b e = list_any_kept (λ o. slides cells o a b) (λ o. slides [] o a b) around (λ o f. slides_bare cells o a b f) e
 
--- whatever stands on a, where it reaches b
+-- an attacker of b on a is in the view of b
 pub cell_seen : (cells : Cells) (cell : Option Piece) (a b : ℕ) → a < 81 → cell_reaches cells cell a b ≡ true → is_seen cells b a ≡ true
 unfolding is_seen
 cell_seen cells None a b h e = absurd (cc)
@@ -166,7 +166,7 @@ cell_seen cells (Some piece) a b h e = elim (or_cases (has_step piece a b) (has_
 
 -- ---- the squares that are left to try
 
--- the squares below 81 that pass are all among those of the mask
+-- the mask `left` has every square that passes the test
 pub record Covers (left : ℕ) (test : ℕ → Bool) : Type 0 where
   pub all : (a : ℕ) → a < 81 → test a ≡ true → has_bit left a ≡ true
 

@@ -1,4 +1,4 @@
--- A square is attacked by a step or a jump, or by a slide against one of the eight directions.
+-- Attacks on a square: a step, a jump, or a slide against one of the eight directions.
 use Rattle.std.proofs.Common.{◌≡◌, ◌⊎◌, ℕ, ◌%◌, ◌<◌, Bool, true, false, refl, sym, ap, ◌∙◌, arith, inl, inr, Option, Some, None, bit_and, List, [], ◌∷◌}
 use Rattle.std.specs.Prelude.{◌==◌, ◌&&◌, ◌||◌, zero, suc, is_none}
 use Rattle.std.specs.List.{list_any, list_all}
@@ -36,7 +36,7 @@ direction_around (suc (suc (suc (suc (suc (suc zero)))))) h = refl
 direction_around (suc (suc (suc (suc (suc (suc (suc zero))))))) h = refl
 direction_around (suc (suc (suc (suc (suc (suc (suc (suc d)))))))) h = absurd (omega arith)
 
--- a direction by its number
+-- each offset of length one is a direction with a number
 pub direction_of : (p : Offset) → list_any (same_way p) around ≡ true → (d : ℕ) × (d < 8) × (same_way p (direction_at d) ≡ true)
 direction_of p e = elim (or_cases (same_way p up) _ e) [
   | inl here ↦ (4, omega arith, here)
@@ -134,7 +134,7 @@ back_straight color d h = back_straight_at color d h
 
 pub ruleset backing = (back_forward_black, back_forward_white, back_diagonal, back_straight)
 
--- where a piece of a side stands, one stands
+-- a square with a piece of a side is not empty
 pub some_of : (color : Color) (cell : Option Piece) → is_piece_of color cell ≡ true → is_none cell ≡ false
 some_of color None e = absurd (cc)
 some_of color (Some piece) e = refl
@@ -159,7 +159,7 @@ shot_by cells color a b h (o ∷ os) all e =
           (rest.0, rest.1, or_right (same_way (back (for_side color o)) (direction_at rest.0)) _ rest.2, rest.3))
     ]
 
--- a piece that slides against a direction slides to where that leads from
+-- a piece that slides against a direction slides to where the direction begins
 pub slide_by : (cells : Cells) (o : Offset) (piece : Piece) (a b : ℕ) → b < 81 → cell_slides_back o (Some piece) ≡ true → slides cells o b a ≡ true → has_slide cells piece a b ≡ true
 slide_by cells o piece a b h against line =
     list_any_kept (λ p. same_way (back (for_side piece.color p)) o) (λ p. slides cells (for_side piece.color p) a b) (slides_of piece.role)
@@ -220,7 +220,7 @@ module _ (cells : Cells) (color : Color) (square : ℕ) (low : square < 81) wher
     | inr shot ↦ both_ways (some_below 8 (slider_attacks_along cells color square)) (sym e) shot
   ])))
 
-  -- a piece that slides against a direction is a sniper
+  -- an attacker that slides against a direction is a sniper
   shot_sniper : (d a : ℕ) → d < 8 → slider_attacks_from cells color square (direction_at d) a ≡ true → is_sniper cells color square a ≡ true
   unfolding are_lined
   shot_sniper d a h e =
@@ -257,7 +257,7 @@ module _ (cells : Cells) (color : Color) (square : ℕ) (low : square < 81) wher
         let inner = and_parts _ _ ((and_parts _ _ sniper).0) in
         (inner.0, sym (lines n l) ∙ parts.0)
 
-    -- no piece in the direction
+    -- no slide comes from an open line
     pub none_shoots : (d : ℕ) → ((n : ℕ) → slides cells (direction_at d) square n ≡ true → is_none (piece_at cells n) ≡ true) → false ≡ slider_attacks_along cells color square d
     unfolding slider_attacks_along
     none_shoots d free = sym (some_below_no 81 (slider_attacks_from cells color square (direction_at d)) (λ a l. false_from_ne_true (slider_attacks_from cells color square (direction_at d) a) (λ e. (
@@ -265,7 +265,7 @@ module _ (cells : Cells) (color : Color) (square : ℕ) (low : square < 81) wher
         both_ways (is_none (piece_at cells a)) (some_of color (piece_at cells a) ((and_parts _ _ outer.0).0)) (free a outer.1)))))
 
     module _ (d f : ℕ) (range : d < 8) (inside : f < 81) (line : slides cells (direction_at d) square f ≡ true) (piece : is_none (piece_at cells f) ≡ false) where
-      -- no other piece in the direction than the first shoots
+      -- only the first piece in a direction can attack by a slide
       first_alone : (a : ℕ) → slider_attacks_from cells color square (direction_at d) a ≡ true → a ≡ f
       first_alone a e =
           let outer = and_parts _ _ e in
@@ -310,7 +310,7 @@ some_below_alike zero s t h = refl
 some_below_alike (suc n) s t h = ap (λ b. b || s n) (some_below_alike n s t (λ i l. h i (omega arith))) ∙ ap (λ b. some_below n t || b) (h n (omega arith))
 
 module _ (cells seen : Cells) (color : Color) (among : ℕ) (own : (n : ℕ) → n < 81 → has_bit among n ≡ is_piece_of color (piece_at seen n)) (same : (n : ℕ) → n < 81 → has_bit among n ≡ true → piece_at seen n ≡ piece_at cells n) where
-  -- what they pass on the one board they pass on the other
+  -- tests of the side's pieces agree on both boards
   pieces_alike : (test : Option Piece → Bool) (n : ℕ) → n < 81 → (has_bit among n && test (piece_at cells n)) ≡ (is_piece_of color (piece_at seen n) && test (piece_at seen n))
   pieces_alike test n l = elim (cases_Bool (has_bit among n)) [
     | inl set ↦ ap (λ b. b && test (piece_at cells n)) (own n l) ∙ ap (λ cell. is_piece_of color (piece_at seen n) && test cell) (sym (same n l set))

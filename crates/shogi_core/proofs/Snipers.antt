@@ -1,4 +1,4 @@
--- A piece is pinned only where it stands on an open line with one of the other side that slides.
+-- A pinned piece stands on an open line with an enemy slider.
 use Rattle.std.proofs.Common.{◌≡◌, ◌⊎◌, ℕ, ◌<◌, true, false, not, sym, ap, subst, ◌∙◌, inl, inr, refl, Option, Some, None, bit_or, List, [], ◌∷◌}
 use Rattle.std.specs.Prelude.{◌==◌, ◌&&◌, ◌||◌, is_none}
 use Rattle.std.specs.List.{list_any, list_all}
@@ -58,7 +58,7 @@ pub ruleset sniping = (snipes_first, snipes_last)
 -- ---- one square is left
 
 module _ (old new : Cells) (n : ℕ) (opened : (x : ℕ) → is_none (piece_at new x) ≡ true → (is_none (piece_at old x) ≡ true) ⊎ (x ≡ n)) where
-  -- a slide was there before, or its beginning is on an open line with the square that was left
+  -- a slide existed before, or starts on an open line with the square that was left
   slide_kept : (piece : Piece) (a b : ℕ) → a < 81 → b < 81 → has_slide new piece a b ≡ true → (are_lined old n a ≡ true) ⊎ (has_slide old piece a b ≡ true)
   unfolding are_lined
   slide_kept piece a b h l e = split (slides_of piece.role) (slides_back_around piece.color piece.role) e
@@ -93,7 +93,7 @@ module _ (old new : Cells) (n : ℕ) (opened : (x : ℕ) → is_none (piece_at n
         ]
       ]
 
-  -- that gives no check where the square is on an open line with no sniper, and what comes to stand on another one gives none
+  -- a move gives no check if its origin is on an open line with no sniper and the piece on `to` reaches no king
   pub left_unpinned : (color : Color) (to : ℕ)
       → ((x : ℕ) → is_piece_of (opponent_of color) (piece_at new x) ≡ true → (piece_at old x ≡ piece_at new x) ⊎ (x ≡ to))
       → ((k : ℕ) → is_king color (piece_at new k) ≡ true → piece_at old k ≡ piece_at new k)

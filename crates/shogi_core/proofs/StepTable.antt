@@ -1,4 +1,4 @@
--- The table of steps holds the squares to which they lead.
+-- The table of steps has the squares that each step pattern reaches.
 use Rattle.std.proofs.Common.{◌≡◌, ℕ, ◌+◌, ◌*◌, ◌/◌, ◌%◌, ◌^◌, ◌<◌, refl, ◌∙◌, arith, get_or, map, List}
 use Rattle.std.specs.Prelude.{◌==◌, cond}
 use Rattle.std.specs.List.{range_with_len}
@@ -12,22 +12,22 @@ use Rattle.shogi_core.specs.Steps.{steps_at, color_number, is_step}
 use Rattle.shogi_core.specs.declared.step_table.TheConstants.{STEPS}
 use Rattle.shogi_core.proofs.TableBits.{entry_at, mask_is, bit_of, has_bit-of, some_bits, has_bit-some}
 
--- the side of a number
+-- the side with this number
 abbrev color_at : ℕ → Color
 color_at n = cond (n == 0) Black White
 
--- the squares to which the steps lead
+-- the mask of the squares that the steps reach
 unfoldable pub steps_mask : Color → List Offset → ℕ → ℕ
 steps_mask color os a = mask_below 81 (is_step color os a)
 
--- the bits of those squares
+-- the bits of the squares that the steps reach
 abbrev step_bits : Color → List Offset → ℕ → ℕ
 step_bits color os a = some_bits (λ o. bit_of (away 1 (for_side color o) a)) os
 
 has_bit-step_bits : (color : Color) (os : List Offset) (a b : ℕ) → has_bit (step_bits color os a) b ≡ is_step color os a b
 has_bit-step_bits color os a b = has_bit-some (λ o. bit_of (away 1 (for_side color o) a)) (λ o. leads 1 (for_side color o) a b) os b (λ o. has_bit-of (away 1 (for_side color o) a) b)
 
--- the entry of each index
+-- the table's entry for an index
 abbrev entry : ℕ → ℕ
 entry i = step_bits (color_at (i / 81 % 2)) (steps_at (i / 162)) (i % 81) % 2 ^ 81
 

@@ -14,17 +14,17 @@ use Rattle.shogi_core.specs.Bits.{has_bit, mask_below}
 use Rattle.shogi_core.specs.Movement.{away, is_same_square, is_step_empty, slides_across}
 use Rattle.shogi_core.proofs.BitLaws.{has_bit-or, has_bit-none, has_bit-one, has_bit-mask, mask_fits, same_mask}
 
--- an entry of a table that f gives place by place
+-- the entry at i of a table that lists f of each index
 pub entry_at : (table : List ℕ) (f : ℕ → ℕ) (n i : ℕ) → table ≡ map f (range_with_len 0 n) → i < n → get_or table i 0 ≡ f i
 entry_at table f n i e h = ap (λ xs. get_or xs i 0) e ∙ get_or-map-range_with_len f 0 n i i 0 h (omega arith)
 
--- a number whose bits are told by a test: its lower 81 are the test's mask
+-- if a test tells the bits of a number, its lower 81 are the mask of the test
 pub mask_is : (m : ℕ) (test : ℕ → Bool) → ((b : ℕ) → has_bit m b ≡ test b) → m % 2 ^ 81 ≡ mask_below 81 test
 unfolding has_bit
 mask_is m test bits = same_mask 81 (m % 2 ^ 81) (mask_below 81 test) (mod-lt m (pow_pos 81)) (mask_fits 81 test) (λ b h.
     ap (λ x. x == 1) (sym (bit_at_cat_low (m / 2 ^ 81) 81 (m % 2 ^ 81) b h)) ∙ (ap (λ x. has_bit x b) (div-add-mod' m (2 ^ 81)) ∙ (bits b ∙ sym (has_bit-mask 81 test b h))))
 
--- the bit of a square, if there is one
+-- the bit of an optional square, or 0
 abbrev pub bit_of : Option ℕ → ℕ
 bit_of None = 0
 bit_of (Some square) = 2 ^ square
@@ -36,7 +36,7 @@ has_bit-of (Some x) b = has_bit-one x b ∙ elim (cases_eq b x) [
   | inr other ↦ ne_eqb b x other ∙ sym (ne_eqb x b (λ e. other (sym e)))
 ]
 
--- the bits that f gives for the offsets, all together
+-- the bits of all offsets together, by f
 unfoldable pub some_bits : (Offset → ℕ) → List Offset → ℕ
 some_bits f [] = 0
 some_bits f (o ∷ os) = bit_or (f o) (some_bits f os)
