@@ -11,25 +11,25 @@ use Rattle.shogi_sfen.specs.declared.byte.TheConstants.{ZERO}
 use Rattle.shogi_sfen.specs.declared.hand_text.TheConstants.{COUNTED_MAX}
 use Rattle.shogi_sfen.specs.Letters.{piece_named}
 
--- so many more of a kind held by the side
+-- `count` more of the kind in the side's hand, at most `COUNTED_MAX` in all
 abbrev pub capped_kind : HandCounts → ℕ → Color → Option Kind → Option HandCounts
 capped_kind hands count color None = None
 capped_kind hands count color (Some kind) =
     Some (slice_set hands (place_of color kind)
     (min COUNTED_MAX (count_in_hand hands color kind + count)))
 
--- so many more of a piece, if it can be held
+-- `count` more of a piece in hand, at most `COUNTED_MAX` in all, if it can be held
 abbrev pub capped_piece : HandCounts → ℕ → Option Piece → Option HandCounts
 capped_piece hands count None = None
 capped_piece hands count (Some piece) = capped_kind hands count piece.color (kind_of piece.role)
 
--- one more digit of a count, of which the first is not 0
+-- the count with a digit appended, at most `COUNTED_MAX`, if its first digit is not 0
 abbrev pub capped_digit : Option ℕ → ℕ → Option ℕ
 capped_digit count byte =
     cond (is_none count && byte == ZERO) None
     (Some (min COUNTED_MAX (unwrap_or count 0 * 10 + (byte - ZERO))))
 
--- the hands that the bytes say on top of those so far, where a count stands right before or none does
+-- the hands that the bytes add to `hands`, with the count that stands right before them, if any
 abbrev pub capped_from : HandCounts → Option ℕ → List ℕ → Option HandCounts
 capped_from hands None [] = Some hands
 capped_from hands (Some count) [] = None
@@ -39,6 +39,6 @@ capped_from hands count (byte ∷ bytes) =
     (option_and_then (λ more. capped_from more None bytes)
     (capped_piece hands (unwrap_or count 1) (piece_named false byte)))
 
--- each count, or the most that is counted where it is greater
+-- the hands with each count at most `COUNTED_MAX`
 abbrev pub capped : HandCounts → HandCounts
 capped hands = map (min COUNTED_MAX) hands

@@ -12,23 +12,23 @@ use Rattle.shogi_core.specs.Pieces.{kind_of}
 use Rattle.shogi_core.specs.Position.{HandCounts, count_in_hand, place_of}
 use Rattle.shogi_sfen.specs.Letters.{piece_named}
 
--- so many more of a kind held by the side
+-- `count` more of the kind in the side's hand
 abbrev pub with_kind : HandCounts → ℕ → Color → Option Kind → Option HandCounts
 with_kind hands count color None = None
 with_kind hands count color (Some kind) =
     Some (slice_set hands (place_of color kind) (count_in_hand hands color kind + count))
 
--- so many more of a piece, if it can be held
+-- `count` more of a piece in hand, if it can be held
 abbrev pub with_piece : HandCounts → ℕ → Option Piece → Option HandCounts
 with_piece hands count None = None
 with_piece hands count (Some piece) = with_kind hands count piece.color (kind_of piece.role)
 
--- one more digit of a count, of which the first is not 0
+-- the count with a digit appended, if its first digit is not 0
 abbrev pub with_digit : Option ℕ → ℕ → Option ℕ
 with_digit count byte =
     cond (is_none count && byte == ZERO) None (Some (unwrap_or count 0 * 10 + (byte - ZERO)))
 
--- the hands that the bytes say on top of those so far, where a count stands right before or none does
+-- the hands that the bytes add to `hands`, with the count that stands right before them, if any
 abbrev pub hands_from : HandCounts → Option ℕ → List ℕ → Option HandCounts
 hands_from hands None [] = Some hands
 hands_from hands (Some count) [] = None
@@ -38,11 +38,11 @@ hands_from hands count (byte ∷ bytes) =
     (option_and_then (λ more. hands_from more None bytes)
     (with_piece hands (unwrap_or count 1) (piece_named false byte)))
 
--- nothing held by either side
+-- two empty hands
 abbrev pub no_hands : HandCounts
 no_hands = replicate 14 0
 
--- the hands of a word, if it is some hands' text; counts may be of any size
+-- the hands that a word writes, with counts of any size, if it is a text of hands
 unfoldable pub hands_of : List ℕ → Option HandCounts
 hands_of word =
     cond (bytes_eq word (codes "-")) (Some no_hands)

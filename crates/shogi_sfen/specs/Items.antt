@@ -7,7 +7,7 @@ use Rattle.shogi_sfen.specs.declared.board_text.RankItem.TheVariants.{Empty, Occ
 use Rattle.shogi_sfen.specs.declared.board_text.TheConstants.{RANK_SQUARES}
 use Rattle.shogi_sfen.specs.Letters.{piece_text}
 
--- a run is of one to nine squares
+-- a run has one to nine squares
 abbrev pub RunFits : RankItem → Type 0
 RunFits (Empty n) = (1 ≤ n) × (n ≤ RANK_SQUARES)
 RunFits (Occupied piece) = Unit {0}

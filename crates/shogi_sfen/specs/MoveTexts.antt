@@ -13,12 +13,12 @@ use Rattle.shogi_sfen.specs.Letters.{letter_of}
 abbrev pub square_text : ℕ → List ℕ
 square_text square = (square / 9 + FIRST_FILE) ∷ (square % 9 + FIRST_RANK) ∷ []
 
--- the one text of a move
+-- the only text of a move
 abbrev pub text_of : Move → List ℕ
 text_of (Board from to promote) = square_text from ++ square_text to ++ cond promote (PLUS ∷ []) []
 text_of (Drop kind to) = letter_of kind ∷ codes "*" ++ square_text to
 
--- there is a move, and this is its text
+-- there is a move, and it has this text
 abbrev pub is_text_of : List ℕ → Option Move → Bool
 is_text_of text None = false
 is_text_of text (Some m) = bytes_eq (text_of m) text
@@ -27,6 +27,6 @@ is_text_of text (Some m) = bytes_eq (text_of m) text
 abbrev pub is_text_of_code : List ℕ → ℕ → Bool
 is_text_of_code text code = is_text_of text (move_of code)
 
--- the move, among all there are, whose text it is
+-- the move, of all moves, with this text
 unfoldable pub move_of_text : List ℕ → Option Move
 move_of_text text = option_and_then move_of (find (is_text_of_code text) all_codes)

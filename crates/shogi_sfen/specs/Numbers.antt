@@ -4,7 +4,7 @@ use Rattle.std.specs.List.{list_all}
 use Rattle.std.specs.Char.{is_ascii_digit}
 use Rattle.std.specs.Str.Parse.{digits_value}
 
--- one or more digits, and nothing else
+-- the word is one or more digits and nothing else
 abbrev pub is_number : List ℕ → Bool
 is_number [] = false
 is_number (byte ∷ bytes) = list_all is_ascii_digit (byte ∷ bytes)
@@ -13,6 +13,6 @@ is_number (byte ∷ bytes) = list_all is_ascii_digit (byte ∷ bytes)
 abbrev pub number_written : List ℕ → ℕ
 number_written word = digits_value 10 word
 
--- the number of a word, or the most where it is greater; none where the word is no number
+-- the number that a word writes, at most `most`, if the word is a number
 abbrev pub capped_number : ℕ → List ℕ → Option ℕ
 capped_number most word = cond (is_number word) (Some (min most (number_written word))) None

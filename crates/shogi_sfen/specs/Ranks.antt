@@ -5,7 +5,7 @@ use Rattle.shogi_sfen.specs.declared.board_text.RankItem.{RankItem}
 use Rattle.shogi_sfen.specs.declared.board_text.TheConstants.{RANK_SQUARES}
 use Rattle.shogi_sfen.specs.Items.{item_cells}
 
--- the item's squares were taken, or there is no item, or no room for its squares
+-- `taken` tells whether the item's squares were appended; if not, there is no item or no room for its squares
 abbrev pub TakesItem : Option RankItem → Cells → Cells → Bool → Type 0
 TakesItem None old new taken = taken ≡ false
 TakesItem (Some item) old new true = new ≡ old ++ item_cells item

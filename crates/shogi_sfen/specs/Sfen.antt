@@ -15,18 +15,18 @@ use Rattle.shogi_sfen.specs.HandTexts.{hands_of}
 use Rattle.shogi_sfen.specs.declared.position.SfenFault.{SfenFault}
 use Rattle.shogi_sfen.specs.declared.position.SfenFault.TheVariants.{BadBoard, BadSide, BadHand, Invalid}
 
--- the side to move of a word
+-- the side to move that a word writes
 abbrev pub side_of : List ℕ → Option Color
 side_of word =
     cond (bytes_eq word (codes "b")) (Some Black)
     (cond (bytes_eq word (codes "w")) (Some White) None)
 
--- a position by the first of its faults, if it has one
+-- the position and the index after it, or its fault
 abbrev pub judged : Option PositionFault → Shogi → ℕ → Result (Shogi × ℕ) SfenFault
 judged None position end = Ok (position, end)
 judged (Some fault) position end = Err (Invalid fault)
 
--- a position by its parts, and the first fault of those that are missing
+-- the position of the parts read, or the first fault: a missing part, then a fault of the position
 abbrev pub position_of_parts : Option Cells → Option Color → Option HandCounts → ℕ
     → Result (Shogi × ℕ) SfenFault
 position_of_parts None side hands end = Err BadBoard
@@ -36,16 +36,16 @@ position_of_parts (Some cells) (Some side) (Some hands) end =
     let position : Shogi = record { cells = cells; hands = hands; side = side } in
     judged (fault_of position) position end
 
--- what stands after a first word that is a number, or all where it is none
+-- the text after its first word if that is a number, else all of it
 abbrev pub past_number : List ℕ → List ℕ
 past_number text =
     cond (option_map_or is_number (slice_get (words text) 0) false) (after_word text) text
 
--- the index right after the last word read: the third, or the fourth where that is a number
+-- the index right after the last word read: the third, or the fourth if it is a number
 abbrev pub end_of : List ℕ → ℕ
 end_of text = length text - length (past_number (rest_after 3 text))
 
--- the position at the start of a text and the index after it, or the first fault
+-- the position at the start of a text and the index after it, or its first fault
 unfoldable pub position_at : List ℕ → Result (Shogi × ℕ) SfenFault
 position_at text =
     let ws = words text in
@@ -58,7 +58,7 @@ abbrev pub IsReadAs : List ℕ → Shogi → Type 0
 IsReadAs text position = (tail : List ℕ) → EndsWord tail
     → position_at (text ++ tail) ≡ Ok (position, end_of (text ++ tail))
 
--- the number by which the host names a fault (own choice)
+-- the number that the host gives for a fault (own choice)
 abbrev pub number_of_sfen_fault : SfenFault → ℕ
 number_of_sfen_fault BadBoard = 1
 number_of_sfen_fault BadSide = 2

@@ -19,7 +19,7 @@ use Rattle.shogi_sfen.specs.Letters.{letter_of, cased_for}
 use Rattle.shogi_sfen.specs.Items.{RunFits, item_cells, item_text}
 use Rattle.shogi_sfen.specs.Written.{rank_cells, side_text, or_hyphen}
 
--- a rank's text is that of items, as `3` or `+P`, whose cells are the rank's nine, from file 9 to file 1; empty squares may be cut into runs in any way
+-- a text spells a rank if it is that of items, such as `3` or `+P`, with the nine cells of the rank, from file 9 to file 1; empty squares may be cut into any runs
 pub record SpellsRank (text : List ℕ) (cells : Cells) : Type 0 where
   pub items : List RankItem
   pub each : AllByRecursion RunFits items
@@ -27,7 +27,7 @@ pub record SpellsRank (text : List ℕ) (cells : Cells) : Type 0 where
   pub nine : length cells ≡ RANK_SQUARES
   pub spelled : flat_map item_text items ≡ text
 
--- a board's text is the texts of its nine ranks (`ranks`), from a to i and each from file 9 to file 1, with a slash between each two
+-- a text spells a board if it is the texts of its nine ranks, from a to i, joined by slashes
 pub record SpellsBoard (text : List ℕ) (cells : Cells) : Type 0 where
   pub cells_fit : length cells ≡ BOARD_SQUARES
   pub ranks : List (List ℕ)
@@ -35,23 +35,23 @@ pub record SpellsBoard (text : List ℕ) (cells : Cells) : Type 0 where
   pub each : (rank : ℕ) → rank < 9 → SpellsRank (get_or ranks rank []) (rank_cells cells rank)
   pub spelled : join_with_byte SLASH ranks ≡ text
 
--- an item of hands: the digits of a count, which may be none, and a kind that a side holds
+-- an item of hands: the digits of a count, possibly none, and a kind that a side holds
 pub record HandItem : Type 0 where
   pub digits : List ℕ
   pub color : Color
   pub kind : Kind
 
--- no digits, or digits of which the first is not 0
+-- the digits are none, or do not begin with 0
 abbrev pub AreCountDigits : List ℕ → Type 0
 AreCountDigits [] = Unit {0}
 AreCountDigits (first ∷ others) = (list_all is_ascii_digit (first ∷ others) ≡ true) × (first ≢ ZERO)
 
--- the count that digits write: one where there are none, and else their number
+-- the count that digits write: their number, or one if there are none
 abbrev pub count_written : List ℕ → ℕ
 count_written [] = 1
 count_written (first ∷ others) = number_written (first ∷ others)
 
--- the text of an item of hands: its digits, and the letter of its kind, in the case of its side
+-- the text of an item of hands: its digits, then the letter of its kind in its side's case
 abbrev pub hand_item_text : HandItem → List ℕ
 hand_item_text item = item.digits ++ cased_for item.color (letter_of item.kind) ∷ []
 
@@ -60,11 +60,11 @@ abbrev pub is_hand_item_of : Color → Kind → HandItem → Bool
 is_hand_item_of color kind item =
     is_same_color item.color color && kind_number item.kind == kind_number kind
 
--- how many of a kind an item gives a side
+-- the count of a side and kind that an item adds
 abbrev pub count_given : Color → Kind → HandItem → ℕ
 count_given color kind item = cond (is_hand_item_of color kind item) (count_written item.digits) 0
 
--- hands' text is a hyphen for nothing, or that of items in any order, whose counts add up to what each side holds; there are fourteen counts, one for each side and kind
+-- a text spells hands if it is that of items in any order, whose counts add up to each of the fourteen counts, or a hyphen for empty hands
 pub record SpellsHands (text : List ℕ) (hands : HandCounts) : Type 0 where
   pub places : length hands ≡ 14
   pub items : List HandItem
@@ -73,48 +73,48 @@ pub record SpellsHands (text : List ℕ) (hands : HandCounts) : Type 0 where
       → count_in_hand hands color kind ≡ sum_by (count_given color kind) items
   pub spelled : or_hyphen (flat_map hand_item_text items) ≡ text
 
--- of the words of a text (what stands between spaces and tabs), the first three are a text of the position's board, one of its side to move, and one of its hands; what follows is not looked at
+-- a text spells a position if its first three words spell the board, the side to move and the hands; what follows them does not matter
 pub record Spells (text : List ℕ) (position : Shogi) : Type 0 where
   pub board : IsSomeAnd (slice_get (words text) 0) (λ word. SpellsBoard word position.cells)
   pub side : IsSomeAnd (slice_get (words text) 1) (λ word. word ≡ side_text position.side)
   pub hands : IsSomeAnd (slice_get (words text) 2) (λ word. SpellsHands word position.hands)
 
--- it spells the position, which is valid
+-- the text spells the position, which is valid
 abbrev pub SpellsValid : List ℕ → Shogi → Type 0
 SpellsValid text position = Spells text position × IsValid position
 
--- it spells a position that has the fault
+-- the text spells a position with the fault
 abbrev pub SpellsInvalid : List ℕ → PositionFault → Type 0
 SpellsInvalid text fault =
     (position : Shogi) × Spells text position × (fault_of position ≡ Some fault)
 
--- it spells the position, whatever follows its last word
+-- the text spells the position, whatever follows its last word
 abbrev pub SpellsAtStart : List ℕ → Shogi → Type 0
 SpellsAtStart text position = (tail : List ℕ) → EndsWord tail → Spells (text ++ tail) position
 
--- the first word is a board's text
+-- the first word spells a board
 abbrev pub HasBoard : List ℕ → Type 0
 HasBoard text =
     IsSomeAnd (slice_get (words text) 0) (λ word. (cells : Cells) × SpellsBoard word cells)
 
--- the second word is a side's text
+-- the second word spells a side
 abbrev pub HasSide : List ℕ → Type 0
 HasSide text =
     IsSomeAnd (slice_get (words text) 1) (λ word. (side : Color) × (word ≡ side_text side))
 
--- the third word is the text of some hands
+-- the third word spells hands
 abbrev pub HasHands : List ℕ → Type 0
 HasHands text =
     IsSomeAnd (slice_get (words text) 2) (λ word. (hands : HandCounts) × SpellsHands word hands)
 
--- the first word is no board's text, or there is none
+-- the first word is missing or spells no board
 abbrev pub LacksBoard : List ℕ → Type 0
 LacksBoard text = HasBoard text → ⊥
 
--- the first word is a board's text, and the second no side's, or there is none
+-- the first word spells a board, and the second is missing or spells no side
 abbrev pub LacksSide : List ℕ → Type 0
 LacksSide text = HasBoard text × (HasSide text → ⊥)
 
--- the first two are those of a board and a side, and the third no hands', or there is none
+-- the first two words spell a board and a side, and the third is missing or spells no hands
 abbrev pub LacksHands : List ℕ → Type 0
 LacksHands text = HasBoard text × HasSide text × (HasHands text → ⊥)

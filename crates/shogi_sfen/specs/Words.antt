@@ -4,20 +4,20 @@ use Rattle.std.specs.Prelude.{◌≡◌, ℕ, Option, Some, None, zero, suc, ◌
 use Rattle.std.specs.List.{slice_split, position_or_len}
 use Rattle.shogi_sfen.specs.declared.byte.TheConstants.{SPACE, TAB}
 
--- a space or a tab
+-- the byte is a space or a tab
 abbrev pub is_blank : ℕ → Bool
 is_blank byte = byte == SPACE || byte == TAB
 
--- a byte of a word
+-- the byte belongs to a word
 abbrev pub is_word_byte : ℕ → Bool
 is_word_byte byte = not (is_blank byte)
 
--- it is not empty
+-- the text is not empty
 abbrev pub has_bytes : List ℕ → Bool
 has_bytes [] = false
 has_bytes (byte ∷ bytes) = true
 
--- the parts between blanks, but for the empty ones
+-- the words of a text: its parts between blanks, without empty ones
 unfoldable pub words : List ℕ → List (List ℕ)
 words text = filter has_bytes (slice_split is_blank text)
 
@@ -25,21 +25,21 @@ words text = filter has_bytes (slice_split is_blank text)
 abbrev pub from_word : List ℕ → List ℕ
 from_word text = drop (position_or_len is_word_byte text) text
 
--- what stands after the first word of a text
+-- the text after its first word
 unfoldable pub after_word : List ℕ → List ℕ
 after_word text = drop (position_or_len is_blank (from_word text)) (from_word text)
 
--- a word ends before these bytes: they are none, or begin with a space or a tab
+-- the bytes end a word before them: there are none, or they begin with a blank
 abbrev pub EndsWord : List ℕ → Type 0
 EndsWord [] = Unit {0}
 EndsWord (byte ∷ bytes) = is_blank byte ≡ true
 
--- what stands after the first n words of a text
+-- the text after its first n words
 abbrev pub rest_after : ℕ → List ℕ → List ℕ
 rest_after zero text = text
 rest_after (suc n) text = rest_after n (after_word text)
 
--- the next word of a text was given, and what stands after it is left; or there was none, and all is left
+-- the next word was given, if there is one, and the text after it is left; else the whole text is left
 abbrev pub GivesWord : List ℕ → Option (Bor (List ℕ)) → List ℕ → Type 0
 GivesWord text None rest = (words text ≡ []) × (rest ≡ text)
 GivesWord text (Some word) rest = (words text ≡ word.now ∷ words rest) × (rest ≡ after_word text)

@@ -1,4 +1,4 @@
-//! A board read from text.
+//! Reads a board from text.
 
 ghost use Rattle.std.specs.Prelude.{◌≡◌, ◌≤◌, ◌<◌, ◌+◌, ◌++◌, None, IfSome, length, replicate, position, drop};
 ghost use Rattle.std.specs.List.{slice_split, position_or_len};
@@ -12,20 +12,20 @@ use crate::letter::read_piece;
 use arrayvec::ArrayVec;
 use shogi_core::Piece;
 
-/// The squares of a rank.
+/// The number of squares on a rank.
 pub const RANK_SQUARES: usize = 9;
 
-/// The squares of a board.
+/// The number of squares on the board.
 pub const BOARD_SQUARES: usize = 81;
 
-/// An item of a rank: so many empty squares, or a piece.
+/// An item of a rank: a number of empty squares, or a piece.
 #[derive(Clone, Copy, Debug, PartialEq, Eq)]
 pub enum RankItem {
     Empty(u8),
     Occupied(Piece),
 }
 
-/// A rank, from file 9 to file 1.
+/// The cells of a rank, from file 9 to file 1.
 pub type Rank = ArrayVec<Option<Piece>, RANK_SQUARES>;
 
 /// Whether the byte is a plus that begins an item.
@@ -35,7 +35,7 @@ fn is_first_plus(plus: bool, byte: u8) -> bool
     !plus && byte == PLUS
 }
 
-/// What a byte says, where a plus stands right before it or not.
+/// The item that a byte writes, with a plus right before it or not.
 fn read_item(plus: bool, byte: u8) -> Option<RankItem>
     ensures { result ≡ item_named plus byte }
 {
@@ -48,7 +48,7 @@ fn read_item(plus: bool, byte: u8) -> Option<RankItem>
     }
 }
 
-/// So many empty squares at the end of a rank that has room for them.
+/// Appends `count` empty squares to a rank that has room for them.
 fn push_run(rank: &mut Rank, count: u8)
     requires { length rank.old.items + count ≤ RANK_SQUARES }
     ensures { rank.new.items ≡ rank.old.items ++ replicate count None }
@@ -58,8 +58,7 @@ fn push_run(rank: &mut Rank, count: u8)
     }
 }
 
-/// The squares of an item at the end of a rank, or false where there is no item, or no room for
-/// them.
+/// Appends the squares of an item to the rank; false if there is no item or no room for it.
 fn push_item(rank: &mut Rank, item: Option<RankItem>) -> bool
     ensures { TakesItem item rank.old.items rank.new.items result }
 {
@@ -82,7 +81,7 @@ fn push_item(rank: &mut Rank, item: Option<RankItem>) -> bool
     }
 }
 
-/// The nine squares of a rank, if the bytes say one.
+/// The nine cells of a rank, or `None` if the bytes write no rank.
 #[tactic(auto, unfolding(crate::specs::BoardTexts::rank_of))]
 fn read_rank(part: &[u8]) -> Option<Rank>
     ensures value { rank_of part.now ≡ option_map (λ rank. rank.items) result }
@@ -106,17 +105,17 @@ fn read_rank(part: &[u8]) -> Option<Rank>
     Some(rank)
 }
 
-/// The squares of a board in the order of a text.
+/// The cells of a board in the order of its text.
 pub type BoardCells = ArrayVec<Option<Piece>, BOARD_SQUARES>;
 
-/// Where the first slash stands.
+/// The index of the first slash.
 fn first_slash(text: &[u8]) -> Option<usize>
     ensures { result ≡ position is_slash text.now }
 {
     text.iter().position(|byte| *byte == SLASH)
 }
 
-/// How many bytes stand before the first slash.
+/// The number of bytes before the first slash.
 #[tactic(auto, using(crate::proofs::WordLaws::first_or_len))]
 fn part_len(text: &[u8]) -> usize
     ensures value { result ≡ position_or_len is_slash text.now }
@@ -125,7 +124,7 @@ fn part_len(text: &[u8]) -> usize
     first_slash(text).unwrap_or(text.len())
 }
 
-/// The squares of a rank behind others.
+/// Appends the cells of a rank.
 fn push_rank(squares: &mut BoardCells, rank: &[Option<Piece>])
     requires { length squares.old.items + length rank.now ≤ BOARD_SQUARES }
     ensures { squares.new.items ≡ squares.old.items ++ rank.now }
@@ -135,7 +134,7 @@ fn push_rank(squares: &mut BoardCells, rank: &[Option<Piece>])
     }
 }
 
-/// What follows so many bytes.
+/// The text after its first `count` bytes.
 fn skip(text: &[u8], count: usize) -> &[u8]
     requires { count ≤ length text.now }
     ensures { result.now ≡ drop count text.now }
@@ -144,7 +143,7 @@ fn skip(text: &[u8], count: usize) -> &[u8]
     rest
 }
 
-/// The squares of nine ranks, if the bytes say them.
+/// The cells of nine ranks, or `None` if the bytes write none.
 fn read_cells(word: &[u8]) -> Option<BoardCells>
     ensures value { squares_of (slice_split is_slash word.now)
         ≡ option_map (λ s. s.items) result }
@@ -174,7 +173,7 @@ fn read_cells(word: &[u8]) -> Option<BoardCells>
     Some(squares)
 }
 
-/// The cells by index of squares in the order of a text.
+/// Reorders cells from the order of a text to the index of squares.
 fn arrange(squares: &[Option<Piece>]) -> [Option<Piece>; BOARD_SQUARES]
     requires { length squares.now ≡ BOARD_SQUARES }
     ensures { result ≡ board_from squares.now }
@@ -186,7 +185,7 @@ fn arrange(squares: &[Option<Piece>]) -> [Option<Piece>; BOARD_SQUARES]
     cells
 }
 
-/// The cells by index of a board's text (SFEN, board), if the word is one.
+/// The cells by index that a board's text writes (SFEN, board), or `None` for any other text.
 #[tactic(auto, unfolding(crate::specs::BoardTexts::board_of))]
 pub fn read_board(word: &[u8]) -> Option<[Option<Piece>; BOARD_SQUARES]>
     ensures { result ≡ board_of word.now }

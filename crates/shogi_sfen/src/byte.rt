@@ -1,32 +1,32 @@
-//! Bytes of texts, by name.
+//! Names for the bytes of texts.
 
 pub const TAB: u8 = b'\t';
 
 pub const SPACE: u8 = b' ';
 
-/// Before the letter of a promoted piece.
+/// Stands before the letter of a promoted piece.
 pub const PLUS: u8 = b'+';
 
-/// Between two ranks.
+/// Stands between two ranks.
 pub const SLASH: u8 = b'/';
 
-/// The digit 0; the others follow it.
+/// The digit 0; the other digits follow by value.
 pub const ZERO: u8 = b'0';
 
-/// The first file of a square; the others follow it.
+/// File 1 of a square; the other files follow by value.
 pub const FIRST_FILE: u8 = b'1';
 
-/// The first rank of a square; the others follow it.
+/// Rank 1 of a square; the other ranks follow by value.
 pub const FIRST_RANK: u8 = b'a';
 
-/// Between the letter of a dropped kind and its square.
+/// Stands between the letter of a dropped piece and its square.
 pub const STAR: u8 = b'*';
 
-/// The first lower-case letter; the upper-case ones come before it.
+/// The first lower-case letter; all upper-case letters are lower in value.
 pub const LOWER_CASE: u8 = b'a';
 
 /// The letter of a king.
 pub const KING: u8 = b'K';
 
-/// From an upper-case letter to the lower-case one.
+/// The difference between a lower-case letter and its upper-case one.
 pub const TO_LOWER_CASE: u8 = b'a' - b'A';

@@ -1,4 +1,4 @@
-//! Hands read from text.
+//! Reads pieces in hand from text.
 
 ghost use Rattle.std.specs.Prelude.{◌≡◌, ◌≤◌, ◌+◌};
 ghost use Rattle.std.specs.Option.{option_map};
@@ -10,10 +10,10 @@ use crate::byte::ZERO;
 use crate::letter::read_piece;
 use shogi_core::{Hands, Piece};
 
-/// Where a count in hand stays: more than any set has.
+/// The value at which a count in hand saturates; no set has as many pieces.
 pub const COUNTED_MAX: u8 = u8::MAX;
 
-/// One more digit of a count, of which the first is not 0; it stays at the most that is counted.
+/// Appends a digit to a count, which saturates at `COUNTED_MAX`; `None` if its first digit is 0.
 fn with_digit(count: Option<u8>, byte: u8) -> Option<u8>
     requires { (ZERO ≤ byte) × (byte ≤ ZERO + 9) }
     ensures { result ≡ capped_digit count byte }
@@ -25,7 +25,7 @@ fn with_digit(count: Option<u8>, byte: u8) -> Option<u8>
     Some(number.min(COUNTED_MAX as u32) as u8)
 }
 
-/// So many more of a piece, if it can be held; a count stays at the most that is counted.
+/// Adds `count` of a piece to the hands, saturating at `COUNTED_MAX`; `None` if it cannot be held.
 fn with_piece(hands: Hands, count: u8, piece: Option<Piece>) -> Option<Hands>
     ensures { result ≡ capped_piece hands count piece }
 {
@@ -35,7 +35,7 @@ fn with_piece(hands: Hands, count: u8, piece: Option<Piece>) -> Option<Hands>
     Some(hands.with(piece.color, kind, held.saturating_add(count)))
 }
 
-/// The hands of items, each a count and a letter.
+/// The hands that items write, each an optional count and a letter.
 fn read_items(word: &[u8]) -> Option<Hands>
     ensures { result ≡ capped_from no_hands None word.now }
 {
@@ -63,8 +63,8 @@ fn read_items(word: &[u8]) -> Option<Hands>
     }
 }
 
-/// The hands of a text (SFEN, pieces in hand), if the word is one. A count that is greater than
-/// the most that is counted is read as that.
+/// The hands that a text writes (SFEN, pieces in hand), or `None` for any other text. A greater
+/// count reads as `COUNTED_MAX`.
 #[tactic(auto, unfolding(crate::specs::HandTexts::hands_of))]
 pub fn read_hands(word: &[u8]) -> Option<Hands>
     ensures { result ≡ option_map capped (hands_of word.now) }

@@ -1,9 +1,9 @@
-//! What follows of the definitions.
+//! Laws that tie names in the code to plain values.
 
 ghost use Rattle.shogi_sfen.specs.Characters.{AreCharacters};
 
-/// The characters that texts are written with are these, by whatever name the code and its
-/// definitions call them.
+/// The byte constants are the characters of USI and SFEN, and a board has 81 squares, nine on a
+/// rank.
 pub fn characters()
     ensures { AreCharacters }
 {}

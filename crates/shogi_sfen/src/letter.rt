@@ -1,4 +1,4 @@
-//! The letters of pieces.
+//! Letters of pieces.
 
 ghost use Rattle.std.specs.Prelude.{◌≡◌, ◌<◌};
 ghost use Rattle.shogi_core.specs.Pieces.{kind_of};
@@ -24,7 +24,7 @@ pub fn letter_of(kind: Kind) -> u8
     }
 }
 
-/// The kind that has the letter.
+/// The kind with this upper-case letter, or `None` for any other byte.
 #[tactic(auto, unfolding(crate::specs::Letters::kind_named))]
 pub fn read_kind(letter: u8) -> Option<Kind>
     ensures { result ≡ kind_named letter }
@@ -35,7 +35,7 @@ pub fn read_kind(letter: u8) -> Option<Kind>
         .find(|kind| letter_of(*kind) == letter)
 }
 
-/// Whether it is a promoted role.
+/// Whether the role is promoted.
 pub fn is_promoted(role: Role) -> bool
     ensures { result ≡ is_promoted role }
 {
@@ -50,7 +50,7 @@ pub fn is_promoted(role: Role) -> bool
     )
 }
 
-/// The upper-case letter of what the role is in hand, or of a king.
+/// The upper-case letter of the role's kind, or `K` for a king.
 fn letter_of_role(role: Role) -> u8
     ensures value { result ≡ letter_or_king (kind_of role) }
     ensures small { result < LOWER_CASE }
@@ -61,7 +61,7 @@ fn letter_of_role(role: Role) -> u8
     }
 }
 
-/// The letter in the case of the side.
+/// The letter in the side's case: upper for Black, lower for White.
 pub fn cased_for(color: Color, letter: u8) -> u8
     requires { letter < LOWER_CASE }
     ensures { result ≡ cased_for color letter }
@@ -72,14 +72,14 @@ pub fn cased_for(color: Color, letter: u8) -> u8
     }
 }
 
-/// The letter of the piece, in the case of its side.
+/// The letter of the piece in its side's case, without a plus.
 pub fn piece_letter(piece: Piece) -> u8
     ensures { result ≡ piece_letter piece }
 {
     cased_for(piece.color, letter_of_role(piece.role))
 }
 
-/// Every role.
+/// All roles.
 const ROLES: [Role; 14] = [
     Role::King,
     Role::Pawn,
@@ -97,14 +97,14 @@ const ROLES: [Role; 14] = [
     Role::Dragon,
 ];
 
-/// Whether the letter names the piece, behind a plus or not.
+/// Whether the letter, after a plus or not, names the piece.
 fn is_named(plus: bool, letter: u8, piece: Piece) -> bool
     ensures { result ≡ is_named plus letter piece }
 {
     is_promoted(piece.role) == plus && piece_letter(piece) == letter
 }
 
-/// The side of a letter.
+/// The side that writes the letter in this case.
 fn color_of_letter(letter: u8) -> Color
     ensures { result ≡ color_of_letter letter }
 {
@@ -115,15 +115,15 @@ fn color_of_letter(letter: u8) -> Color
     }
 }
 
-/// The role that the letter names for the side, behind a plus or not.
+/// The role of the side that the letter names, after a plus or not.
 fn read_role(plus: bool, letter: u8, color: Color) -> Option<Role>
     ensures { result ≡ role_named plus letter color }
 {
     ROLES.iter().copied().find(|role| is_named(plus, letter, Piece { color, role: *role }))
 }
 
-/// The piece that the letter names, behind a plus or not: upper case is Black's, lower case
-/// White's.
+/// The piece that the letter names, after a plus or not: upper case is Black's, lower case White's.
+/// `None` if it names no piece.
 #[tactic(auto, unfolding(crate::specs::Letters::piece_named))]
 pub fn read_piece(plus: bool, letter: u8) -> Option<Piece>
     ensures { result ≡ piece_named plus letter }

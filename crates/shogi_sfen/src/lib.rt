@@ -1,4 +1,4 @@
-//! Words, moves and positions as text, as USI and SFEN write them.
+//! Words, moves and positions as texts of USI and SFEN.
 #![tactic(auto)]
 
 mod board_text;

@@ -1,4 +1,4 @@
-//! Moves as text.
+//! Reads and writes moves as text.
 
 ghost use Rattle.std.specs.Prelude.{◌≡◌, ◌++◌, ◌<◌, Some, length};
 ghost use Rattle.shogi_sfen.specs.MoveTexts.{square_text, text_of, move_of_text};
@@ -9,7 +9,7 @@ use crate::letter::{letter_of, read_kind};
 use arrayvec::ArrayVec;
 use shogi_core::{Kind, Move, Square};
 
-/// The square of a digit and a letter from `a` to `i`.
+/// The square of a digit for its file and a letter from `a` to `i` for its rank.
 fn read_square(file: u8, rank: u8) -> Option<Square>
     ensures { result ≡ square_read file rank }
 {
@@ -22,7 +22,7 @@ fn read_square(file: u8, rank: u8) -> Option<Square>
     }
 }
 
-/// The board move of two squares, if both are there.
+/// The move between two squares, if both were read.
 fn board_move(from: Option<Square>, to: Option<Square>, promote: bool) -> Option<Move>
     ensures { result ≡ board_read from to promote }
 {
@@ -32,7 +32,7 @@ fn board_move(from: Option<Square>, to: Option<Square>, promote: bool) -> Option
     }
 }
 
-/// The drop of a kind on a square, if both are there.
+/// The drop of a kind on a square, if both were read.
 fn drop_move(kind: Option<Kind>, to: Option<Square>) -> Option<Move>
     ensures { result ≡ drop_read kind to }
 {
@@ -42,7 +42,7 @@ fn drop_move(kind: Option<Kind>, to: Option<Square>) -> Option<Move>
     }
 }
 
-/// The move of four bytes: a drop where the second is a star, else a board move.
+/// The move of four bytes: a drop if the second is a star, else a move on the board.
 fn read_short(bytes: &[u8]) -> Option<Move>
     requires { length bytes.now ≡ 4 }
     ensures { result ≡ short_read bytes.now }
@@ -55,7 +55,7 @@ fn read_short(bytes: &[u8]) -> Option<Move>
     }
 }
 
-/// The move of five bytes: a board move with a promotion, where the last is a plus.
+/// The move of five bytes: a promotion, which ends with a plus.
 fn read_long(bytes: &[u8]) -> Option<Move>
     requires { length bytes.now ≡ 5 }
     ensures { result ≡ long_read bytes.now }
@@ -79,20 +79,20 @@ fn read_either(bytes: &[u8]) -> Option<Move>
     }
 }
 
-/// The move of a move text (USI, moves), as `7g7f`, `8h2b+` or `G*5b`; `None` for any other text.
-/// The move need not be legal anywhere.
+/// The move that a text writes (USI, moves), such as `7g7f`, `8h2b+` or `G*5b`, or `None` for any
+/// other text. The move need not be legal in any position.
 pub fn read_move(bytes: &[u8]) -> Option<Move>
     ensures { result ≡ move_of_text bytes.now }
 {
     read_either(bytes)
 }
 
-/// The one text of the move (USI, moves).
+/// The only text of the move (USI, moves).
 pub fn write_move(m: Move) -> ArrayVec<u8, 5>
     ensures text { result.items ≡ text_of m }
     ensures back { move_of_text (text_of m) ≡ Some m }
 {
-    // For the proof: the move has a code, so that it is one of those whose text is looked for.
+    // The prover needs a code for the move: its text is looked for among all codes.
     m.reveal_invariant();
     let mut text = ArrayVec::new();
     match m {
@@ -112,7 +112,7 @@ pub fn write_move(m: Move) -> ArrayVec<u8, 5>
     text
 }
 
-/// Writes the file as a digit and the rank as a letter from `a` to `i`.
+/// Appends the file as a digit and the rank as a letter from `a` to `i`.
 fn push_square(text: &mut ArrayVec<u8, 5>, square: Square)
     requires { length text.old.items < 4 }
     ensures { text.new.items ≡ text.old.items ++ square_text square }

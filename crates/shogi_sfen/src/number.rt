@@ -1,10 +1,10 @@
-//! Numbers as digits.
+//! Reads numbers in decimal.
 
 ghost use Rattle.std.specs.Prelude.{◌≡◌};
 ghost use Rattle.shogi_sfen.specs.Numbers.{is_number, capped_number};
 
-/// The number that a word of digits writes, or `most` where it is greater; `None` where the word
-/// is empty or has another byte than a digit. Any number of digits is read.
+/// The number that the digits write, at most `most`; `None` if the word is empty or has another
+/// byte than a digit. Any number of digits is read.
 pub fn read_number(word: &[u8], most: u32) -> Option<u32>
     ensures { result ≡ capped_number most word.now }
 {
@@ -22,7 +22,7 @@ pub fn read_number(word: &[u8], most: u32) -> Option<u32>
     Some(number as u32)
 }
 
-/// Whether the word is one or more digits, and nothing else.
+/// Whether the word is one or more digits and nothing else.
 pub fn is_number(word: &[u8]) -> bool
     ensures { result ≡ is_number word.now }
 {

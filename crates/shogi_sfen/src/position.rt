@@ -1,4 +1,4 @@
-//! A position read from text.
+//! Reads a position from text.
 
 ghost use Rattle.std.specs.Prelude.{◌≡◌, ◌≤◌, ◌↔◌, false, length, Ok, Err, IfOk};
 ghost use Rattle.std.specs.Option.{option_map, option_and_then, option_copied, option_map_or};
@@ -18,21 +18,21 @@ use crate::number::is_number;
 use crate::split::words;
 use shogi_core::{Color, Hands, Piece, Position, PositionFault};
 
-/// Why a text is no position, in the order in which the faults are looked for.
+/// Why a text writes no position. Faults are looked for in this order.
 #[derive(Clone, Copy, Debug, PartialEq, Eq)]
 pub enum SfenFault {
-    /// The first word is no board, or there is none.
+    /// The first word is missing or writes no board.
     BadBoard,
-    /// The second word is neither `b` nor `w`, or there is none.
+    /// The second word is missing or is neither `b` nor `w`.
     BadSide,
-    /// The third word says no hands, or there is none.
+    /// The third word is missing or writes no hands.
     BadHand,
-    /// The position has this fault.
+    /// The words write a position with this fault.
     Invalid(PositionFault),
 }
 
 impl SfenFault {
-    /// The number by which the host names the fault, from 1 to 8 (own choice).
+    /// The number that the host gives for the fault, from 1 to 8 (own choice).
     pub fn number(self) -> u8
         ensures { result ≡ number_of_sfen_fault self }
     {
@@ -45,7 +45,7 @@ impl SfenFault {
     }
 }
 
-/// The side to move of a word.
+/// The side to move that a word writes.
 fn read_side(word: &[u8]) -> Option<Color>
     ensures { result ≡ side_of word.now }
 {
@@ -58,7 +58,7 @@ fn read_side(word: &[u8]) -> Option<Color>
     }
 }
 
-/// The cells of a word that may be there.
+/// The cells that a word writes, if there is a word.
 fn board_word(word: Option<&[u8]>) -> Option<[Option<Piece>; BOARD_SQUARES]>
     ensures { result ≡ option_and_then board_of (option_copied word.entry) }
 {
@@ -68,7 +68,7 @@ fn board_word(word: Option<&[u8]>) -> Option<[Option<Piece>; BOARD_SQUARES]>
     }
 }
 
-/// The side of a word that may be there.
+/// The side that a word writes, if there is a word.
 fn side_word(word: Option<&[u8]>) -> Option<Color>
     ensures { result ≡ option_and_then side_of (option_copied word.entry) }
 {
@@ -78,7 +78,7 @@ fn side_word(word: Option<&[u8]>) -> Option<Color>
     }
 }
 
-/// The hands of a word that may be there.
+/// The hands that a word writes, if there is a word.
 fn hand_word(word: Option<&[u8]>) -> Option<Hands>
     ensures { result ≡ option_map capped (option_and_then hands_of (option_copied word.entry)) }
 {
@@ -88,7 +88,7 @@ fn hand_word(word: Option<&[u8]>) -> Option<Hands>
     }
 }
 
-/// Whether a word is there and is a number.
+/// Whether there is a word and it is a number.
 fn number_word(word: Option<&[u8]>) -> bool
     ensures { result ≡ option_map_or is_number (option_copied word.entry) false }
 {
@@ -98,7 +98,7 @@ fn number_word(word: Option<&[u8]>) -> bool
     }
 }
 
-/// What stands after a first word that is a number; all where it is none.
+/// The text after its first word if that is a number, else all of it.
 fn after_number(text: &[u8]) -> &[u8]
     ensures value { result.now ≡ past_number text.now }
     ensures len { length result.now ≤ length text.now }
@@ -111,7 +111,7 @@ fn after_number(text: &[u8]) -> &[u8]
     }
 }
 
-/// The position at the start of a text, or its first fault, word by word.
+/// The position at the start of a text and the index after it, or its first fault.
 fn position_at(text: &[u8]) -> Result<(Position, usize), SfenFault>
     ensures { result ≡ position_at text.now }
 {
@@ -133,9 +133,9 @@ fn position_at(text: &[u8]) -> Result<(Position, usize), SfenFault>
     Ok((position, text.len() - after.len()))
 }
 
-/// The position at the start of a text (SFEN): a board, a side, hands, and a number that has no
-/// effect and may be absent; and the index right after the last of these words. The first fault is
-/// named, in the order of `SfenFault`; a missing word is the fault of its place, and a count in hand
+/// Reads the position at the start of a text (SFEN): a board, a side, hands, and an optional number
+/// without effect. Returns it with the index right after the last of these words, or the first
+/// fault in the order of `SfenFault`. A missing word is the fault of its place; a count in hand
 /// that no set has is `TooMany`, however long it is.
 pub fn read_position(text: &[u8]) -> Result<(Position, usize), SfenFault>
     ensures value { result ≡ position_at text.now }

@@ -1,4 +1,4 @@
-//! A position written as text.
+//! Writes a position as text.
 
 ghost use Rattle.std.specs.Prelude.{◌≡◌, ◌≤◌, ◌<◌, ◌+◌, ◌*◌, ◌++◌, [], ◌∷◌, length};
 ghost use Rattle.shogi_sfen.specs.Written.{run_text, cells_text, rank_cells, rank_text, board_text, side_text, held_text, side_held_text, hands_text, position_text};
@@ -17,13 +17,13 @@ use crate::letter::{cased_for, is_promoted, letter_of, piece_letter};
 use arrayvec::ArrayVec;
 use shogi_core::{Board, Color, Hands, Kind, Piece, Position, Square};
 
-/// A written position has at most so many bytes.
+/// The most bytes that a written position can have.
 pub const TEXT_BYTES: usize = 256;
 
-/// The written text of a position.
+/// The text of a position while it is written.
 pub type Text = ArrayVec<u8, TEXT_BYTES>;
 
-/// A plus where the piece is promoted, and its letter.
+/// Appends the letter of the piece, after a plus if it is promoted.
 fn push_piece(text: &mut Text, piece: Piece)
     requires { length text.old.items + 2 ≤ TEXT_BYTES }
     ensures value { text.new.items ≡ text.old.items ++ piece_text piece }
@@ -35,7 +35,7 @@ fn push_piece(text: &mut Text, piece: Piece)
     text.push(piece_letter(piece));
 }
 
-/// A number of empty squares as a digit, if there are any.
+/// Appends a number of empty squares as a digit, unless it is 0.
 fn push_run(text: &mut Text, run: u8)
     requires room { length text.old.items + run ≤ TEXT_BYTES }
     requires run { run ≤ RANK_SQUARES }
@@ -47,7 +47,7 @@ fn push_run(text: &mut Text, run: u8)
     }
 }
 
-/// The nine squares of a rank, counted from 0, from file 9 to file 1.
+/// The nine cells of a rank, counted from 0, from file 9 to file 1.
 fn rank_cells(board: &Board, rank: usize) -> Rank
     requires { rank < RANK_SQUARES }
     ensures { result.items ≡ rank_cells board.now rank }
@@ -59,7 +59,7 @@ fn rank_cells(board: &Board, rank: usize) -> Rank
     cells
 }
 
-/// The squares of a rank, with each maximal run of empty ones as a digit.
+/// Appends the cells of a rank, with each maximal run of empty squares as a digit.
 fn push_cells(text: &mut Text, cells: &Rank)
     requires room { length text.old.items + 18 ≤ TEXT_BYTES }
     ensures value { text.new.items ≡ text.old.items ++ cells_text 0 cells.now.items }
@@ -79,7 +79,7 @@ fn push_cells(text: &mut Text, cells: &Rank)
     push_run(text, run);
 }
 
-/// A rank, with a slash before it where it is not the first.
+/// Appends a rank, after a slash unless it is the first.
 fn push_rank(text: &mut Text, board: &Board, rank: usize)
     requires room { length text.old.items + 19 ≤ TEXT_BYTES }
     requires rank { rank < RANK_SQUARES }
@@ -92,7 +92,7 @@ fn push_rank(text: &mut Text, board: &Board, rank: usize)
     push_cells(text, &rank_cells(board, rank));
 }
 
-/// The ranks from a to i.
+/// Appends the nine ranks from a to i.
 fn push_board(text: &mut Text, board: &Board)
     requires { text.old.items ≡ [] }
     ensures value { text.new.items ≡ board_text board.now }
@@ -103,7 +103,7 @@ fn push_board(text: &mut Text, board: &Board)
     }
 }
 
-/// So many of a kind in hand: the digits of a count over 1, and the letter.
+/// Appends a count in hand: its digits if it is over 1, and the letter; nothing if it is 0.
 fn push_held(text: &mut Text, color: Color, kind: Kind, count: u8)
     requires room { length text.old.items + 3 ≤ TEXT_BYTES }
     requires small { count < 100 }
@@ -122,7 +122,7 @@ fn push_held(text: &mut Text, color: Color, kind: Kind, count: u8)
     text.push(cased_for(color, letter_of(kind)));
 }
 
-/// The kinds in their order in a text.
+/// The kinds in the order of a text.
 const KINDS_IN_TEXT: [Kind; 7] = [
     Kind::Rook,
     Kind::Bishop,
@@ -133,7 +133,7 @@ const KINDS_IN_TEXT: [Kind; 7] = [
     Kind::Pawn,
 ];
 
-/// What a side holds.
+/// Appends the hand of one side.
 fn push_side_held(text: &mut Text, hands: Hands, color: Color)
     requires room { length text.old.items + 21 ≤ TEXT_BYTES }
     requires small { (kind : Kind) → count_in_hand hands color kind < 100 }
@@ -145,7 +145,7 @@ fn push_side_held(text: &mut Text, hands: Hands, color: Color)
     }
 }
 
-/// What both sides hold, or a hyphen where they hold nothing.
+/// Appends both hands, or a hyphen if they are empty.
 fn push_hands(text: &mut Text, hands: Hands)
     requires room { length text.old.items + 42 ≤ TEXT_BYTES }
     requires small { (color : Color) (kind : Kind) → count_in_hand hands color kind < 100 }
@@ -169,13 +169,15 @@ fn side_letter(side: Color) -> u8
     }
 }
 
-/// The one written text of the position (SFEN): board, side and hands, without a move number.
+/// The one text that is written for the position (SFEN): board, side and hands, without a move
+/// number.
 pub fn write_position(position: &Position) -> ArrayVec<u8, TEXT_BYTES>
     ensures text { result.items ≡ position_text position.now }
     ensures back { IsReadAs (position_text position.now) position.now }
     ensures spelled { SpellsAtStart (position_text position.now) position.now }
 {
-    // For the proof: the position is valid, so that no side holds 100 of a kind.
+    // The prover needs a valid position: no side then holds 100 of a kind, so two digits are
+    // enough.
     position.reveal_invariant();
     let mut text = ArrayVec::new();
     push_board(&mut text, &position.board());

@@ -1,10 +1,10 @@
-//! A text, word by word.
+//! Splits a text into words.
 
 ghost use Rattle.std.specs.Prelude.{◌≡◌};
 
 use crate::word::Words;
 
-/// The words of the text: its maximal runs of bytes other than space and tab.
+/// Iterates over the words of the text: its maximal runs of bytes other than space and tab.
 pub fn words(text: &[u8]) -> Words<'_>
     ensures { result ≡ text.now }
 {

@@ -1,4 +1,4 @@
-//! The words of a text.
+//! Iteration over the words of a text.
 
 ghost use Rattle.std.specs.Prelude.{◌≡◌, ◌≤◌, length, position};
 ghost use Rattle.std.specs.List.{position_or_len};
@@ -8,28 +8,28 @@ ghost use Rattle.shogi_sfen.specs.Words.{is_blank, is_word_byte, words, GivesWor
 use crate::byte::{SPACE, TAB};
 use std::marker::Model;
 
-/// A space or a tab.
+/// Whether the byte is a space or a tab.
 fn is_blank(byte: u8) -> bool
     ensures { result ≡ is_blank byte }
 {
     byte == SPACE || byte == TAB
 }
 
-/// Where the first byte of a word stands.
+/// The index of the first byte of a word.
 fn first_word_byte(text: &[u8]) -> Option<usize>
     ensures { result ≡ position is_word_byte text.now }
 {
     text.iter().position(|byte| !is_blank(*byte))
 }
 
-/// Where the first blank stands.
+/// The index of the first blank.
 fn first_blank(text: &[u8]) -> Option<usize>
     ensures { result ≡ position is_blank text.now }
 {
     text.iter().position(|byte| is_blank(*byte))
 }
 
-/// How many blanks the text begins with.
+/// The number of blanks at the start of the text.
 #[tactic(auto, using(crate::proofs::WordLaws::first_or_len))]
 fn blanks_len(text: &[u8]) -> usize
     ensures value { result ≡ position_or_len is_word_byte text.now }
@@ -38,7 +38,7 @@ fn blanks_len(text: &[u8]) -> usize
     first_word_byte(text).unwrap_or(text.len())
 }
 
-/// How many bytes stand before the first blank.
+/// The number of bytes before the first blank.
 #[tactic(auto, using(crate::proofs::WordLaws::first_or_len))]
 fn word_len(text: &[u8]) -> usize
     ensures value { result ≡ position_or_len is_blank text.now }
@@ -47,7 +47,7 @@ fn word_len(text: &[u8]) -> usize
     first_blank(text).unwrap_or(text.len())
 }
 
-/// The words of a text that are still to come, seen as the bytes after the last word given.
+/// The words of a text still to come, seen as the bytes after the last word given.
 #[derive(Debug, Drop)]
 pub struct Words<'a> {
     text: &'a [u8],
@@ -69,7 +69,7 @@ impl<'a> Words<'a> {
         Words { text }
     }
 
-    /// The bytes after the last word given; all of them where none was.
+    /// The bytes after the last word given, or the whole text before the first.
     pub fn rest(&self) -> &'a [u8]
         ensures { result.now ≡ self.now }
     {
@@ -84,7 +84,7 @@ impl<'a> Iterator for Words<'a> {
 
     ghost remaining = { item_count words };
 
-    /// The next word, or `None` where only blanks are left, which then stay the rest.
+    /// The next word, or `None` if only blanks are left; they then stay the rest.
     fn next(&mut self) -> Option<&'a [u8]> {
         let text = self.text;
         let (_, from) = text.split_at(blanks_len(text));
