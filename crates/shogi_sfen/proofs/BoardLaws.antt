@@ -1,4 +1,4 @@
--- Ranks one after another.
+-- Boards rank by rank.
 use Rattle.std.proofs.Common.{◌≡◌, ◌≢◌, ℕ, ◌+◌, ◌*◌, ◌≤◌, ◌<◌, refl, sym, ◌∙◌, ap, arith, List, [], ◌∷◌, ◌++◌, length, take, drop, get_or, append_assoc, append-nil, Option, Some, None, inl, inr}
 use Rattle.std.specs.Prelude.{◌==◌, map}
 use Rattle.std.specs.List.{slice_split, position_or_len, range_with_len}
@@ -17,7 +17,7 @@ joined-joined : (a b : Cells) (more : Option Cells) → joined a (joined b more)
 joined-joined a b None = refl
 joined-joined a b (Some c) = ap Some (sym (append_assoc a b c))
 
--- what is known after some ranks
+-- the state after some ranks were read
 pub record HasRanks (word rest : List ℕ) (squares : Cells) (n : ℕ) : Type 0 where
   pub parts : length (slice_split is_slash word) ≡ n + length (slice_split is_slash rest)
   pub ranks : ranks_of (slice_split is_slash word) ≡ joined squares (ranks_of (slice_split is_slash rest))
@@ -27,7 +27,7 @@ unit : (o : Option Cells) → o ≡ joined [] o
 unit None = refl
 unit (Some c) = refl
 
--- a text up to its first slash, and what follows it
+-- a text is its part before the first slash and the rest
 one_part : (rest : List ℕ) → length rest ≤ position_or_len is_slash rest → slice_split is_slash rest ≡ rest ∷ []
 one_part rest h = slice_split_none is_slash rest (λ k d below. fails_before_first is_slash rest k d (omega arith))
 
@@ -36,7 +36,7 @@ first_part rest n e h =
     let here : position_or_len is_slash rest < length rest = omega arith in
     slice_split_first is_slash rest 0 here ∙ ap (λ (k : ℕ). take k rest ∷ slice_split is_slash (drop (k + 1) rest)) (sym e)
 
--- one more rank
+-- one more rank is read
 pub ranks-step : (word rest : List ℕ) (squares rank new : Cells) (n k : ℕ) → HasRanks word rest squares n → k ≡ position_or_len is_slash rest → k < length rest
     → rank_of (take k rest) ≡ Some rank → length rank ≡ 9 → new ≡ squares ++ rank → HasRanks word (drop (k + 1) rest) new (n + 1)
 ranks-step word rest squares rank new n k has e h r nine add =
@@ -56,27 +56,27 @@ ranks-step word rest squares rank new n k has e h r nine add =
 some_part : (rest : List ℕ) → 0 < length (slice_split is_slash rest)
 some_part rest = let n : length (slice_split is_slash rest) ≡ count_by is_slash rest + 1 = length-slice_split is_slash rest in omega arith
 
--- another number of parts than nine
+-- a number of parts other than nine gives no board
 other_count : (parts : List (List ℕ)) → (length parts ≡ 9 → ⊥) → squares_of parts ≡ None
 other_count parts h = cond-false (length parts == 9) _ _ (ne_eqb (length parts) 9 h)
 
 no_ranks : (parts : List (List ℕ)) → ranks_of parts ≡ None → squares_of parts ≡ None
 no_ranks parts e = cond_both (length parts == 9) (ranks_of parts) None (λ (o : Option Cells). o ≡ None) (λ t. e) (λ t. refl)
 
--- no slash where one is wanted
+-- a missing slash gives no board
 pub ranks-short : (word rest : List ℕ) (squares : Cells) (n k : ℕ) → HasRanks word rest squares n → n < 8 → k ≡ position_or_len is_slash rest → k ≡ length rest → squares_of (slice_split is_slash word) ≡ None
 ranks-short word rest squares n k has small e f =
     let count : length (slice_split is_slash rest) ≡ 1 = ap length (one_part rest (omega arith)) in
     let all : length (slice_split is_slash word) ≡ n + length (slice_split is_slash rest) = has.parts in
     other_count (slice_split is_slash word) (λ nine. omega arith)
 
--- a rank that is none
+-- a wrong rank gives no board
 pub ranks-wrong : (word rest : List ℕ) (squares : Cells) (n k : ℕ) → HasRanks word rest squares n → k ≡ position_or_len is_slash rest → k < length rest → rank_of (take k rest) ≡ None → squares_of (slice_split is_slash word) ≡ None
 ranks-wrong word rest squares n k has e h r =
     no_ranks (slice_split is_slash word) (has.ranks ∙ (ap (λ (ps : List (List ℕ)). joined squares (ranks_of ps)) (first_part rest k e h)
     ∙ ap (λ (o : Option Cells). joined squares (both_joined o (ranks_of (slice_split is_slash (drop (k + 1) rest))))) r))
 
--- a slash after the ninth
+-- a slash after the ninth rank gives no board
 pub ranks-long : (word rest : List ℕ) (squares : Cells) (k : ℕ) → HasRanks word rest squares 8 → k ≡ position_or_len is_slash rest → k < length rest → squares_of (slice_split is_slash word) ≡ None
 ranks-long word rest squares k has e h =
     let count : length (slice_split is_slash rest) ≡ length (take k rest ∷ slice_split is_slash (drop (k + 1) rest)) = ap length (first_part rest k e h) in
@@ -111,7 +111,7 @@ placed cells squares square cell len below is before k lt = elim (cases_eq k squ
   | inr apart ↦ get_or-set_other cells square k cell None apart ∙ before k (let a : k ≢ square = apart in omega arith)
 ]
 
--- squares put in their places
+-- cells put in their places are the board
 pub arranged : (cells squares : Cells) → length cells ≡ 81 → ((k : ℕ) → k < 81 → get_or cells k None ≡ get_or squares (place_in_text k) None) → cells ≡ board_from squares
 arranged cells squares len each =
     let f : ℕ → Option Piece = λ (s : ℕ). piece_at squares (place_in_text s) in

@@ -1,4 +1,4 @@
--- Hands byte by byte, and counts that stop at the most that is counted.
+-- Hands byte by byte, with counts that saturate at `COUNTED_MAX`.
 use Rattle.std.proofs.Common.{◌≡◌, ℕ, ◌+◌, ◌-◌, ◌*◌, ◌<◌, Bool, true, false, cond, refl, sym, ◌∙◌, ap, arith, List, [], ◌∷◌, length, drop, get_or, set, Option, Some, None, min, add-one}
 use Rattle.std.specs.Prelude.{◌==◌, ◌&&◌, suc, unwrap_or}
 use Rattle.std.specs.Option.{option_map, option_and_then}
@@ -20,21 +20,21 @@ use Rattle.shogi_sfen.specs.Letters.{piece_named}
 use Rattle.shogi_sfen.specs.HandTexts.{with_kind, with_piece, with_digit, hands_from, no_hands, hands_of}
 use Rattle.shogi_sfen.specs.CappedHands.{capped_kind, capped_piece, capped_digit, capped_from, capped}
 
--- one byte more
+-- the effect of one byte
 at_byte : (hands : HandCounts) (count : Option ℕ) (byte : ℕ) (bytes : List ℕ) → capped_from hands count (byte ∷ bytes) ≡ cond (is_ascii_digit byte)
     (option_and_then (λ n. capped_from hands (Some n) bytes) (capped_digit count byte))
     (option_and_then (λ more. capped_from more None bytes) (capped_piece hands (unwrap_or count 1) (piece_named false byte)))
 at_byte hands None byte bytes = refl
 at_byte hands (Some n) byte bytes = refl
 
--- a number capped, and then a sum
+-- capping numbers before a sum changes nothing after the sum is capped
 pub min-sum : (a n : ℕ) → min COUNTED_MAX (min COUNTED_MAX a + min COUNTED_MAX n) ≡ min COUNTED_MAX (a + n)
 min-sum a n = omega arith
 
 min-digit : (n d : ℕ) → min COUNTED_MAX (min COUNTED_MAX n * 10 + d) ≡ min COUNTED_MAX (n * 10 + d)
 min-digit n d = omega arith
 
--- a step of one reading is that of the other
+-- if each step agrees up to capping, the readings do
 through : (o : Option ℕ) (f g : ℕ → Option HandCounts) → ((n : ℕ) → g (min COUNTED_MAX n) ≡ option_map capped (f n)) → option_and_then g (option_map (min COUNTED_MAX) o) ≡ option_map capped (option_and_then f o)
 through None f g h = refl
 through (Some n) f g h = h n
@@ -78,7 +78,7 @@ pub exact_byte : (hands : HandCounts) (count : Option ℕ) (byte : ℕ) (bytes :
 exact_byte hands None byte bytes = refl
 exact_byte hands (Some n) byte bytes = refl
 
--- counts that stop at the most that is counted are the counts, each or the most that is counted
+-- saturating counts are the exact counts, capped
 hands_capped : (bytes : List ℕ) (hands : HandCounts) (count : Option ℕ) → capped_from (capped hands) (option_map (min COUNTED_MAX) count) bytes ≡ option_map capped (hands_from hands count bytes)
 hands_capped [] hands None = refl
 hands_capped [] hands (Some n) = refl

@@ -18,7 +18,7 @@ use Rattle.shogi_sfen.proofs.HoldingLaws.{added}
 digit : (n : ℕ) → n < 10 → is_ascii_digit (n + 48) ≡ true
 digit n h = and_from _ _ (le-leb 48 (n + 48) (omega arith)) (le-leb (n + 48) 57 (omega arith))
 
--- a letter, behind a count or none
+-- a letter is read, after a count or none
 pub letter_back : (color : Color) (kind : Kind) (hands : HandCounts) (count : Option ℕ) (rest : List ℕ)
     → hands_from hands count (cased_for color (letter_of kind) ∷ rest) ≡ hands_from (added hands color kind (unwrap_or count 1)) None rest
 unfolding piece_named
@@ -31,7 +31,7 @@ letter_back Black kind hands (Some n) rest = refl
 letter_back White kind hands None rest = refl
 letter_back White kind hands (Some n) rest = refl
 
--- one digit of a count
+-- one digit of a count is read
 digit_back : (d : ℕ) (hands : HandCounts) (rest : List ℕ) → 1 ≤ d → d < 10 → hands_from hands None ((d + 48) ∷ rest) ≡ hands_from hands (Some d) rest
 digit_back d hands rest low high =
     cond-true (is_ascii_digit (d + 48)) _ _ (digit d high)
@@ -42,7 +42,7 @@ next_digit_back : (n d : ℕ) (hands : HandCounts) (rest : List ℕ) → d < 10 
 next_digit_back n d hands rest high =
     cond-true (is_ascii_digit (d + 48)) _ _ (digit d high) ∙ ap (λ (m : ℕ). hands_from hands (Some m) rest) (omega arith)
 
--- a count and a letter
+-- a count and a letter are read
 pub held_back : (color : Color) (kind : Kind) (n : ℕ) (hands : HandCounts) (rest : List ℕ) → n < 100 → hands_from hands None (held_text color kind n ++ rest) ≡ hands_from (added hands color kind n) None rest
 held_back color kind n hands rest small = elim (cases_eq n 0) [
   | inl none ↦

@@ -1,4 +1,4 @@
--- What a letter names has that letter.
+-- The piece that a letter names has this letter.
 use Rattle.std.proofs.Common.{◌≡◌, ℕ, Bool, true, refl, sym, ◌∙◌, subst, List, [], ◌∷◌, Option, Some, None, inl, inr}
 use Rattle.std.specs.Prelude.{◌==◌}
 use Rattle.std.specs.List.{find}
@@ -11,7 +11,7 @@ use Rattle.shogi_core.specs.declared.piece.Piece.{Piece}
 use Rattle.shogi_core.specs.Pieces.{all_kinds}
 use Rattle.shogi_sfen.specs.Letters.{letter_of, is_letter_of, kind_named, piece_letter, is_named, all_roles, color_of_letter, role_named, piece_of_side, piece_named}
 
--- what is found passes the test
+-- what `find` finds passes the test
 found_passes : {A : Type 0} (test : A → Bool) (xs : List A) (found : A) → find test xs ≡ Some found → test found ≡ true
 found_passes test [] found e = cc
 found_passes {A} test (x ∷ xs) found e = elim (cases_Bool (test x)) [

@@ -1,4 +1,4 @@
--- A position word by word.
+-- Positions word by word.
 use Rattle.std.proofs.Common.{◌≡◌, ℕ, ◌-◌, ◌≤◌, refl, sym, ◌∙◌, ap, arith, List, length, Option, Some, None, Bor}
 use Rattle.std.specs.Prelude.{suc, IfOk, IfSome, MatchOption, Result, Ok, Err, slice_get}
 use Rattle.std.specs.List.{position_or_len}
@@ -18,7 +18,7 @@ use Rattle.shogi_sfen.specs.declared.position.SfenFault.{SfenFault}
 use Rattle.shogi_sfen.specs.declared.position.SfenFault.TheVariants.{BadBoard, BadSide, BadHand, Invalid}
 use Rattle.shogi_sfen.proofs.TooManyHeld.{parts, judged-capped, hands_of-len}
 
--- the first word, and the words after it
+-- the first word and the words after it
 pub gives_first : (text rest : List ℕ) (o : Option (Bor (List ℕ))) → GivesWord text o rest → slice_get (words text) 0 ≡ option_copied o
 gives_first text rest None g = ap (λ (ws : List (List ℕ)). slice_get ws 0) g.0
 gives_first text rest (Some word) g = ap (λ (ws : List (List ℕ)). slice_get ws 0) g.0
@@ -28,7 +28,7 @@ gives_more text rest None k g =
     ap (λ (ws : List (List ℕ)). slice_get ws (suc k)) g.0 ∙ sym (ap (λ (t : List ℕ). slice_get (words t) k) g.1 ∙ ap (λ (ws : List (List ℕ)). slice_get ws k) g.0)
 gives_more text rest (Some word) k g = ap (λ (ws : List (List ℕ)). slice_get ws (suc k)) g.0
 
--- three calls for a word
+-- three calls of `next` for a word
 pub record Three (text r1 r2 r3 : List ℕ) (o1 o2 o3 : Option (Bor (List ℕ))) : Type 0 where
   pub one : GivesWord text o1 r1
   pub two : GivesWord r1 o2 r2
@@ -41,7 +41,7 @@ module _ (text r1 r2 r3 : List ℕ) (o1 o2 o3 : Option (Bor (List ℕ))) where
       sym (ap (λ (o : Option (List ℕ)). position_of_parts (option_and_then board_of o) (option_and_then side_of (slice_get (words text) 1)) (option_and_then hands_of (slice_get (words text) 2)) (end_of text)) (gives_first text r1 o1 g)
       ∙ ap (λ (o : Option Cells). position_of_parts o (option_and_then side_of (slice_get (words text) 1)) (option_and_then hands_of (slice_get (words text) 2)) (end_of text)) (sym e))
 
-  -- the words by number
+  -- each call gives the word of its number
   second : GivesWord text o1 r1 → GivesWord r1 o2 r2 → slice_get (words text) 1 ≡ option_copied o2
   second g h = gives_more text r1 o1 0 g ∙ gives_first r1 r2 o2 h
 
@@ -54,7 +54,7 @@ module _ (text r1 r2 r3 : List ℕ) (o1 o2 o3 : Option (Bor (List ℕ))) where
       sym (ap (λ (o : Option Cells). position_of_parts o (option_and_then side_of (slice_get (words text) 1)) (option_and_then hands_of (slice_get (words text) 2)) (end_of text)) (ap (option_and_then board_of) (gives_first text r1 o1 g) ∙ sym e)
       ∙ ap (λ (o : Option Color). position_of_parts (Some cells) o (option_and_then hands_of (slice_get (words text) 2)) (end_of text)) (ap (option_and_then side_of) (second g h) ∙ sym f))
 
-  -- by all three words
+  -- the position of the three words
   pub position_at-three : (cells : Cells) (side : Color) → Three text r1 r2 r3 o1 o2 o3 → Some cells ≡ option_and_then board_of (option_copied o1) → Some side ≡ option_and_then side_of (option_copied o2)
       → position_at text ≡ position_of_parts (Some cells) (Some side) (option_and_then hands_of (option_copied o3)) (end_of text)
   unfolding position_at
@@ -63,7 +63,7 @@ module _ (text r1 r2 r3 : List ℕ) (o1 o2 o3 : Option (Bor (List ℕ))) where
       ∙ (ap (λ (o : Option Color). position_of_parts (Some cells) o (option_and_then hands_of (slice_get (words text) 2)) (end_of text)) (ap (option_and_then side_of) (second t.one t.two) ∙ sym f)
       ∙ ap (λ (o : Option (List ℕ)). position_of_parts (Some cells) (Some side) (option_and_then hands_of o) (end_of text)) (third t.one t.two t.three))
 
--- hands as the code keeps them
+-- the position with saturated counts in hand
 pub by_hands : (cells : Cells) (side : Color) (end : ℕ) (o : Option HandCounts) (hands : HandCounts) → IfSome o (λ out. length out ≡ 14) → Some hands ≡ option_map capped o
     → position_of_parts (Some cells) (Some side) o end ≡ judged (fault_of (parts cells hands side)) (parts cells hands side) end
 by_hands cells side end None hands len e = cc
@@ -79,7 +79,7 @@ pub word_len : (o : Option (List ℕ)) → IfSome (option_and_then hands_of o) (
 word_len None = tt
 word_len (Some word) = hands_of-len word
 
--- what `Position::new` answered
+-- the result of `Position::new`
 pub new_err : (o : Option PositionFault) (p : Shogi) (fault : PositionFault) (end : ℕ) → MatchOption o ((let r : Result Shogi PositionFault = Err fault in r) ≡ Ok p) (λ f. (let r : Result Shogi PositionFault = Err fault in r) ≡ Err f) → Err (Invalid fault) ≡ judged o p end
 new_err None p fault end h = cc
 new_err (Some f) p fault end h = let same : fault ≡ f = cc in ap (λ (x : PositionFault). Err (Invalid x)) same
@@ -88,7 +88,7 @@ pub new_ok : (o : Option PositionFault) (p made : Shogi) (end : ℕ) → MatchOp
 new_ok None p made end h = let same : made ≡ p = cc in ap (λ (x : Shogi). Ok (x, end)) same
 new_ok (Some f) p made end h = cc
 
--- what stands after a word is no longer than the text
+-- the rest after a word is no longer than the text
 pub after_word-len : (text : List ℕ) → length (after_word text) ≤ length text
 unfolding after_word
 after_word-len text =
@@ -100,7 +100,7 @@ pub gives_len : (text rest : List ℕ) (o : Option (Bor (List ℕ))) → GivesWo
 gives_len text rest None g = let e : length rest ≡ length text = ap length g.1 in omega arith
 gives_len text rest (Some word) g = let e : length rest ≡ length (after_word text) = ap length g.1 in let l : length (after_word text) ≤ length text = after_word-len text in omega arith
 
--- a word that says something was there
+-- a word that was read was there
 pub gives_after : {A : Type 0} (text rest : List ℕ) (o : Option (Bor (List ℕ))) (f : List ℕ → Option A) (a : A) → GivesWord text o rest → Some a ≡ option_and_then f (option_copied o) → rest ≡ after_word text
 gives_after text rest None f a g e = cc
 gives_after text rest (Some word) f a g e = g.1
@@ -109,7 +109,7 @@ pub gives_after_hands : (text rest : List ℕ) (o : Option (Bor (List ℕ))) (ha
 gives_after_hands text rest None hands g e = cc
 gives_after_hands text rest (Some word) hands g e = g.1
 
--- three words and a number
+-- the end after three words and a number
 pub ends_at : (text r1 r2 r3 after : List ℕ) → r1 ≡ after_word text → r2 ≡ after_word r1 → r3 ≡ after_word r2 → after ≡ past_number r3 → length text - length after ≡ end_of text
 ends_at text r1 r2 r3 after a b c d =
     ap (λ (t : List ℕ). length text - length t) (d ∙ ap past_number (c ∙ (ap after_word b ∙ ap (λ (t : List ℕ). after_word (after_word t)) a)))

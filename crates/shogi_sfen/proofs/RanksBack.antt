@@ -1,4 +1,4 @@
--- Items are read from their texts, and a written rank as its squares.
+-- Written items are read as themselves, and a written rank as its cells.
 use Rattle.std.proofs.Common.{◌≡◌, ℕ, ◌+◌, ◌≤◌, false, refl, sym, ◌∙◌, ap, arith, List, [], ◌∷◌, ◌++◌, length, append-nil, Option, Some, None, add-one}
 use Rattle.std.specs.Prelude.{◌==◌, ◌&&◌, zero, suc, nat_lt, replicate}
 use Rattle.std.specs.List.{flat_map}
@@ -23,7 +23,7 @@ piece_back White Pawn rest = refl
 piece_back Black role rest = refl
 piece_back White role rest = refl
 
--- an item in front
+-- an item before other items is read
 pub item_back : (item : RankItem) (rest : List ℕ) → RunFits item → items_from false (item_text item ++ rest) ≡ onto_items (Some item) (items_from false rest)
 item_back (Empty n) rest h =
     let low : 1 ≤ n = h.0 in
@@ -36,11 +36,11 @@ more_squares : (item : RankItem) (items : Option (List RankItem)) (cells : Cells
 more_squares item None cells e = cc
 more_squares item (Some items) cells e = let same : flat_map item_cells items ≡ cells = cc in ap (λ (c : Cells). Some (item_cells item ++ c)) same
 
--- the squares of an item in front
+-- an item's cells come before those of other items
 in_front : (item : RankItem) (rest : List ℕ) (cells : Cells) → RunFits item → squares_in (items_from false rest) ≡ Some cells → squares_in (items_from false (item_text item ++ rest)) ≡ Some (item_cells item ++ cells)
 in_front item rest cells h e = ap squares_in (item_back item rest h) ∙ more_squares item (items_from false rest) cells e
 
--- a run in front
+-- a run of empty squares is read before other items
 run_back : (n : ℕ) (rest : List ℕ) (cells : Cells) → n ≤ 9 → squares_in (items_from false rest) ≡ Some cells → squares_in (items_from false (run_text n ++ rest)) ≡ Some (replicate n None ++ cells)
 run_back zero rest cells h e = e
 run_back (suc k) rest cells h e =
@@ -58,7 +58,7 @@ cells_back (None ∷ cells) run h =
 cells_back (Some piece ∷ cells) run h =
     run_back run (piece_text piece ++ cells_text 0 cells) (Some piece ∷ cells) (omega arith) (in_front (Occupied piece) (cells_text 0 cells) cells tt (cells_back cells 0 (omega arith)))
 
--- nine squares, written and read
+-- nine cells are written and read back
 pub rank_of-cells_text : (cells : Cells) → length cells ≡ 9 → rank_of (cells_text 0 cells) ≡ Some cells
 unfolding rank_of
 rank_of-cells_text cells nine =

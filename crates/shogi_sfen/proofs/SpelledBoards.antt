@@ -1,4 +1,4 @@
--- A board is read exactly where it is spelled.
+-- A board is read if and only if it is spelled.
 use Rattle.std.proofs.Common.{◌≡◌, ℕ, ◌+◌, ◌-◌, ◌*◌, ◌<◌, Bool, true, false, cond, refl, sym, ◌∙◌, ap, arith, List, [], ◌∷◌, ◌++◌, length, get_or, Option, Some, None, zero-add}
 use Rattle.std.specs.Prelude.{◌==◌, zero, suc, map}
 use Rattle.std.specs.List.{flat_map, range_with_len, slice_split, join_with_byte, All}
@@ -15,7 +15,7 @@ use Rattle.shogi_sfen.specs.Spelling.{SpellsRank, SpellsBoard}
 use Rattle.shogi_sfen.proofs.WrittenBack.{board_from-ranks}
 use Rattle.shogi_sfen.proofs.SpelledRanks.{SpellsRank-read, rank_of-spelled, no_slash_in}
 
--- two runs of squares that were both read
+-- two lists of cells that were both read
 record AreBoth (o more : Option Cells) (squares : Cells) : Type 0 where
   first : Cells
   others : Cells
@@ -28,7 +28,7 @@ are_both None more squares e = cc
 are_both (Some first) None squares e = cc
 are_both (Some first) (Some others) squares e = record { first = first; others = others; one = refl; two = refl; all = cc }
 
--- a rank that was read, and its place among the squares
+-- a rank that was read and its place in the cells
 record IsRankAt (parts : List (List ℕ)) (squares : Cells) (k : ℕ) : Type 0 where
   cells : Cells
   read : rank_of (get_or parts k []) ≡ Some cells
@@ -60,7 +60,7 @@ rank_at (part ∷ parts) squares e (suc k) below =
           ∙ (ap (λ (n : ℕ). get_or (b.first ++ b.others) n None) (omega arith) ∙ get_or-append-add b.first b.others (k * 9 + i) None));
     }
 
--- a rank of the board of these squares
+-- a rank that was read is a rank of the board
 rank_there : (parts : List (List ℕ)) (squares : Cells) (k : ℕ) (r : IsRankAt parts squares k) → k < 9 → r.cells ≡ rank_cells (board_from squares) k
 rank_there parts squares k r small =
     let place : ℕ → Option Piece = λ (s : ℕ). piece_at squares (place_in_text s) in
@@ -112,7 +112,7 @@ SpellsBoard-read text cells e =
       spelled = join_with_byte-slice_split 47 text;
     }
 
--- parts with no slash in them are those between the slashes
+-- parts without slashes are the parts between the slashes
 parts_between : (parts : List (List ℕ)) → 0 < length parts → ((k : ℕ) → k < length parts → All (λ x. is_slash x ≡ false) (get_or parts k [])) → slice_split is_slash (join_with_byte 47 parts) ≡ parts
 parts_between [] some plain = absurd (omega arith)
 parts_between (part ∷ []) some plain = slice_split_none is_slash part (plain 0 (omega arith))
@@ -120,7 +120,7 @@ parts_between (part ∷ next ∷ parts) some plain =
     slice_split_at is_slash part 47 (join_with_byte 47 (next ∷ parts)) (plain 0 (omega arith)) refl
     ∙ ap (λ (ps : List (List ℕ)). part ∷ ps) (parts_between (next ∷ parts) (omega arith) (λ k below. plain (suc k) (omega arith)))
 
--- ranks one after another
+-- spelled ranks are read one after another
 ranks_read : (cells : Cells) (parts : List (List ℕ)) (a : ℕ) → ((k : ℕ) → k < length parts → rank_of (get_or parts k []) ≡ Some (rank_cells cells (a + k)))
     → ranks_of parts ≡ Some (flat_map (rank_cells cells) (range_with_len a (length parts)))
 ranks_read cells [] a each = refl

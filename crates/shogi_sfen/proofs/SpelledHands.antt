@@ -1,4 +1,4 @@
--- Hands are read exactly where they are spelled.
+-- Hands are read if and only if they are spelled.
 use Rattle.std.proofs.Common.{◌≡◌, ℕ, ◌+◌, ◌-◌, ◌*◌, ◌<◌, Bool, true, false, cond, refl, sym, ◌∙◌, ap, subst, arith, List, [], ◌∷◌, ◌++◌, length, Option, Some, None, inl, inr, append_assoc, length-set}
 use Rattle.std.specs.Prelude.{◌==◌, ◌&&◌, IfSome, unwrap_or, codes}
 use Rattle.std.specs.List.{flat_map, sum_by, list_all, AllByRecursion}
@@ -30,7 +30,7 @@ use Rattle.shogi_sfen.proofs.HandsBack.{letter_back}
 use Rattle.shogi_sfen.proofs.WrittenBack.{finished}
 use Rattle.shogi_sfen.proofs.LetterLaws.{piece_named-letter}
 
--- items with this text, and what is held after them
+-- items with this text and the hands after them
 record IsHeldFrom (text : List ℕ) (start hands : HandCounts) : Type 0 where
   items : List HandItem
   each : AllByRecursion (λ item. AreCountDigits item.digits) items
@@ -66,7 +66,7 @@ next_digit ds (Some m) byte n digit begun e =
       let len : length (ds ++ byte ∷ []) ≡ length ds + 1 = length_push ds byte in omega arith,
     )
 
--- a step that was taken, and what follows it
+-- a step that succeeded and its result
 record Steps {A : Type 0} (o : Option A) (f : A → Option HandCounts) (hands : HandCounts) : Type 0 where
   next : A
   found : o ≡ Some next
@@ -76,7 +76,7 @@ steps : {A : Type 0} (o : Option A) (f : A → Option HandCounts) (hands : HandC
 steps None f hands e = cc
 steps (Some next) f hands e = record { next = next; found = refl; later = e }
 
--- a letter that says what is held
+-- a letter that adds to the hands
 record IsLetterFor (hands : HandCounts) (n byte : ℕ) (more : HandCounts) : Type 0 where
   color : Color
   kind : Kind
@@ -93,7 +93,7 @@ by_piece hands n byte more None p e = cc
 by_piece hands n byte more (Some piece) p e =
     by_kind hands n byte more piece (kind_of piece.role) refl (piece_named-letter false byte piece p) e
 
--- what was counted before a letter
+-- the count before a letter
 counted : (ds : List ℕ) (count : Option ℕ) → IsBegun ds count → AreCountDigits ds × (count_written ds ≡ unwrap_or count 1)
 unfolding IsBegun
 counted ds None begun = subst (λ (xs : List ℕ). AreCountDigits xs × (count_written xs ≡ 1)) (sym begun) (tt, refl)
@@ -201,7 +201,7 @@ count_read (d ∷ ds) hands color kind rest h =
     ∙ (digits_read ds hands (0 * 10 + digit_value d) letter parts.1
     ∙ letter_back color kind hands (Some (digits_value 10 (d ∷ ds))) rest)))
 
--- what items are read as
+-- the hands that items are read as
 record AreRead (items : List HandItem) (start : HandCounts) : Type 0 where
   hands : HandCounts
   read : hands_from start None (flat_map hand_item_text items) ≡ Some hands

@@ -1,4 +1,4 @@
--- A position is read exactly where it is spelled.
+-- A position is read if and only if it is spelled.
 use Rattle.std.proofs.Common.{◌≡◌, ℕ, Bool, true, false, cond, refl, sym, ◌∙◌, ap, subst, List, length, Option, Some, None}
 use Rattle.std.specs.Prelude.{◌↔◌, IfOk, Result, Ok, Err, slice_get, codes}
 use Rattle.std.specs.Option.{IsSomeAnd, option_and_then}
@@ -22,7 +22,7 @@ use Rattle.shogi_sfen.proofs.TooManyHeld.{parts}
 use Rattle.shogi_sfen.proofs.SpelledBoards.{SpellsBoard-read, board_of-spelled}
 use Rattle.shogi_sfen.proofs.SpelledHands.{SpellsHands-read, hands_of-spelled}
 
--- a side that is read is spelled, and the other way round
+-- a side is read if and only if it is spelled
 by_letter : (b w : Bool) (text : List ℕ) (side : Color) → bytes_eq text (codes "b") ≡ b → bytes_eq text (codes "w") ≡ w → cond b (Some Black) (cond w (Some White) None) ≡ Some side → text ≡ side_text side
 by_letter true w text side t u e = let same : Black ≡ side = cc in (bytes_eq-Decides text (codes "b")).0 t ∙ ap side_text same
 by_letter false true text side t u e = let same : White ≡ side = cc in (bytes_eq-Decides text (codes "w")).0 u ∙ ap side_text same
@@ -35,7 +35,7 @@ side_there : (side : Color) → side_of (side_text side) ≡ Some side
 side_there Black = refl
 side_there White = refl
 
--- the same of a word that may be there
+-- an optional word is read if and only if it is spelled
 board_word : (o : Option (List ℕ)) (cells : Cells) → option_and_then board_of o ≡ Some cells → IsSomeAnd o (λ text. SpellsBoard text cells)
 board_word None cells e = cc
 board_word (Some text) cells e = SpellsBoard-read text cells e
@@ -60,7 +60,7 @@ hands_word-read : (o : Option (List ℕ)) (hands : HandCounts) → IsSomeAnd o (
 hands_word-read None hands h = absurd h
 hands_word-read (Some text) hands h = hands_of-spelled text hands h
 
--- what is spelled, whatever it is
+-- a word that spells this thing spells some thing
 some_with : {A : Type 0} (o : Option (List ℕ)) (P : List ℕ → A → Type 0) (a : A) → IsSomeAnd o (λ text. P text a) → IsSomeAnd o (λ text. (x : A) × P text x)
 some_with None P a h = h
 some_with (Some text) P a h = (a, h)
@@ -78,7 +78,7 @@ hands_fit : (o : Option (List ℕ)) (hands : HandCounts) → IsSomeAnd o (λ tex
 hands_fit None hands h = absurd h
 hands_fit (Some text) hands h = h.places
 
--- the first fault of a position is none of its text
+-- the fault of a position is never one of its text
 not_of_text : (o : Option PositionFault) (p : Shogi) (end : ℕ) (fault : SfenFault) → ((f : PositionFault) → Invalid f ≡ fault → ⊥) → judged o p end ≡ Err fault → ⊥
 not_of_text None p end fault h e = cc
 not_of_text (Some f) p end fault h e = h f (cc)
@@ -91,7 +91,7 @@ judged-err : (o : Option PositionFault) (p : Shogi) (end : ℕ) (fault : Positio
 judged-err None p end fault e = cc
 judged-err (Some f) p end fault e = cc
 
--- what the first three words are read as
+-- the parts that the first three words are read as
 abbrev board_read : List ℕ → Option Cells
 board_read text = option_and_then board_of (slice_get (words text) 0)
 
@@ -203,7 +203,7 @@ module _ (text : List ℕ) (r : Result (Shogi × ℕ) SfenFault) (answer : r ≡
     λ f. spelled-read f.0 f.1 ∙ ap (λ (o : Option PositionFault). judged o f.0 (end_of text)) f.2,
   )
 
--- a position that is read is spelled, and valid
+-- a position that is read is spelled and valid
 pub read-spelled : (text : List ℕ) (r : Result (Shogi × ℕ) SfenFault) → r ≡ position_at text → IfOk r (λ got. SpellsValid text got.0)
 read-spelled text (Ok got) answer = found text (end_of text) (board_read text) (side_read text) (hands_read text) got.0 got.1 refl refl refl (sym (said text (Ok got) answer))
 read-spelled text (Err fault) answer = tt

@@ -1,4 +1,4 @@
--- A rank is read exactly where it is spelled.
+-- A rank is read if and only if it is spelled.
 use Rattle.std.proofs.Common.{◌≡◌, ℕ, ◌+◌, ◌-◌, ◌<◌, Bool, true, false, cond, refl, sym, ◌∙◌, ap, subst, arith, List, [], ◌∷◌, ◌++◌, length, Option, Some, None, inl, inr}
 use Rattle.std.specs.Prelude.{◌==◌, ◌&&◌, not, nat_lt, codes}
 use Rattle.std.specs.List.{flat_map, list_all, All, AllByRecursion}
@@ -17,7 +17,7 @@ use Rattle.shogi_sfen.proofs.LetterLaws.{piece_named-passes}
 use Rattle.shogi_sfen.proofs.RanksBack.{item_back}
 use Rattle.shogi_sfen.proofs.WrittenBack.{is_plain, plain_digit, plain_both, plain_piece, no_slash}
 
--- a plus before the bytes, or none
+-- the bytes after a plus or none
 behind : Bool → List ℕ → List ℕ
 behind true bytes = 43 ∷ bytes
 behind false bytes = bytes
@@ -31,7 +31,7 @@ named_text false letter piece e =
     let both = and_parts (not (is_promoted piece.role)) (piece_letter piece == letter) e in
     ap (λ (b : Bool). cond b (codes "+") [] ++ piece_letter piece ∷ []) (not-true (is_promoted piece.role) both.0) ∙ ap (λ (n : ℕ). n ∷ []) (eqb-true (piece_letter piece) letter both.1)
 
--- an item that was read
+-- an item that was read from a byte
 IsItemOf : Bool → ℕ → RankItem → Type 0
 IsItemOf plus byte item = RunFits item × (item_text item ≡ behind plus (byte ∷ []))
 
@@ -108,6 +108,6 @@ plain_items [] = refl
 plain_items (Empty n ∷ items) = and_from (is_plain (n + 48)) (list_all is_plain (flat_map item_text items)) (plain_digit n) (plain_items items)
 plain_items (Occupied piece ∷ items) = plain_both (piece_text piece) (flat_map item_text items) (plain_piece piece.color piece.role) (plain_items items)
 
--- there is no slash in it
+-- a rank's text has no slash
 pub no_slash_in : (text : List ℕ) (cells : Cells) → SpellsRank text cells → All (λ x. is_slash x ≡ false) text
 no_slash_in text cells s = no_slash text (subst (λ (t : List ℕ). list_all is_plain t ≡ true) s.spelled (plain_items s.items))

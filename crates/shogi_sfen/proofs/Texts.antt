@@ -1,4 +1,4 @@
--- The reading of a move text, and the texts of moves.
+-- Reading a move text against the texts of moves.
 use Rattle.std.proofs.Common.{◌≡◌, ℕ, ◌+◌, ◌-◌, ◌*◌, ◌/◌, ◌%◌, ◌<◌, Bool, true, false, cond, refl, sym, ◌∙◌, ap, subst, arith, List, [], ◌∷◌, length, Option, Some, None, inl, inr}
 use Rattle.std.specs.Prelude.{◌==◌, ◌&&◌, nat_lt, slice_index, codes}
 use Rattle.std.proofs.lemmas.Bool.{cond-true, cond-false, and_from, and_parts, lt-ltb, ltb-true, eqb-true, ne_eqb, cases_Bool}
@@ -38,7 +38,7 @@ pub move_read-drop : (kind : Kind) (to : ℕ) → to < 81 → move_read (text_of
 unfolding move_read
 move_read-drop kind to h = drop_back _ _ kind to (kind_named-letter kind) (square_back to h)
 
--- what is read as a square is its text
+-- a square that was read has this text
 record IsSquareText (file rank s : ℕ) : Type 0 where
   on_board : s < 81
   file_is : file ≡ s / 9 + 49
@@ -57,12 +57,12 @@ square_from file rank s e =
     let f : (file - 49) * 9 + (rank - 97) ≡ s = both.1 in
     record { on_board = omega arith; file_is = omega arith; rank_is = omega arith }
 
--- a move of squares on the board
+-- a move between squares on the board
 unfoldable pub IsOnBoard : Move → Type 0
 IsOnBoard (Board from to promote) = (from < 81) × (to < 81)
 IsOnBoard (Drop kind to) = to < 81
 
--- what is read as a move
+-- a move that was read from this text
 pub record IsMoveText (text : List ℕ) (m : Move) : Type 0 where
   pub on_board : IsOnBoard m
   pub spelled : text_of m ≡ text
@@ -109,7 +109,7 @@ long_from a b c d f m e = elim (cases_Bool (f == 43)) [
   | inr other ↦ let none : None ≡ Some m = sym (cond-false (f == 43) _ _ other) ∙ e in cc
 ]
 
--- a text of four or five bytes, byte by byte
+-- a text of four or five bytes is the list of its bytes
 pub four : (text : List ℕ) → length text ≡ 4 → text ≡ slice_index text 0 ∷ slice_index text 1 ∷ slice_index text 2 ∷ slice_index text 3 ∷ []
 four [] e = absurd (omega arith)
 four (a ∷ []) e = absurd (omega arith)
@@ -127,7 +127,7 @@ five (a ∷ b ∷ c ∷ d ∷ []) e = absurd (omega arith)
 five (a ∷ b ∷ c ∷ d ∷ f ∷ []) e = refl
 five (a ∷ b ∷ c ∷ d ∷ f ∷ g ∷ more) e = absurd (omega arith)
 
--- what is read as a move is its text
+-- a move that is read has this text
 pub move_read-some : (text : List ℕ) (m : Move) → move_read text ≡ Some m → IsMoveText text m
 unfolding move_read
 move_read-some text m e = elim (cases_Bool (length text == 4)) [

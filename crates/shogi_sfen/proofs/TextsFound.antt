@@ -1,4 +1,4 @@
--- Reading a move text finds the move, among all, whose text it is.
+-- Reading a move text finds the move, of all moves, with this text.
 use Rattle.std.proofs.Common.{◌≡◌, ℕ, ◌+◌, ◌-◌, ◌/◌, ◌%◌, ◌≤◌, ◌<◌, Bool, true, false, refl, sym, ◌∙◌, ap, subst, arith, List, Option, Some, None, inl, inr}
 use Rattle.std.specs.Prelude.{◌==◌, nat_lt, zero, suc}
 use Rattle.std.specs.List.{find, range_with_len}
@@ -16,7 +16,7 @@ use Rattle.shogi_sfen.specs.MoveTexts.{text_of, is_text_of, is_text_of_code, mov
 use Rattle.shogi_sfen.specs.Reading.{move_read}
 use Rattle.shogi_sfen.proofs.Texts.{move_read-board, move_read-drop, move_read-some, IsMoveText, IsOnBoard}
 
--- the first number of a range that passes
+-- `find` gives the only number of a range that passes
 find-one : (p : ℕ → Bool) (n a c : ℕ) → a ≤ c → c < a + n → p c ≡ true → ((k : ℕ) → k < a + n → p k ≡ true → k ≡ c) → find p (range_with_len a n) ≡ Some c
 find-one p zero a c low high here only = absurd (omega arith)
 find-one p (suc n) a c low high here only = elim (cases_Bool (p a)) [
@@ -31,7 +31,7 @@ find-none : (p : ℕ → Bool) (n a : ℕ) → ((k : ℕ) → k < a + n → p k 
 find-none p zero a h = refl
 find-none p (suc n) a h = cond-false (p a) _ _ (h a (omega arith)) ∙ find-none p n (a + 1) (λ k below. h k (omega arith))
 
--- a code below 13,689 has a move of squares on the board, and leads back
+-- a code below 13,689 is that of its move, which is on the board
 record HasMove (code : ℕ) : Type 0 where
   move : Move
   move_is : move_of code ≡ Some move
@@ -54,7 +54,7 @@ has_move code h = elim (cases_lt code FIRST_DROP) [
   }
 ]
 
--- a code whose text it is has the move that is read
+-- a code with this text has the move that is read
 record Found (text : List ℕ) (code : ℕ) : Type 0 where
   move : Move
   read_is : move_read text ≡ Some move
@@ -67,7 +67,7 @@ found text code h e =
     let same : text_of m.move ≡ text = (bytes_eq-Decides (text_of m.move) text).0 is in
     record { move = m.move; read_is = ap move_read (sym same) ∙ m.read_back; code_is = sym m.back }
 
--- the code of a move on the board is one of all codes
+-- a move on the board has one of all codes
 record IsCoded (m : Move) : Type 0 where
   below : code_of m < MOVE_CODE_COUNT
   back : move_of (code_of m) ≡ Some m
@@ -101,11 +101,11 @@ search : (text : List ℕ) (o : Option Move) → move_read text ≡ o → move_r
 search text (Some m) e = e ∙ sym (search_some text m e)
 search text None e = e ∙ sym (search_none text e)
 
--- what is read is the move whose text it is
+-- `move_read` gives the move with this text
 pub move_read-is : (text : List ℕ) → move_read text ≡ move_of_text text
 move_read-is text = search text (move_read text) refl
 
--- the text of a move that has a code is that move's
+-- the text of a move with a code finds that move
 pub move_of_text-coded : (m : Move) (code : ℕ) → code < MOVE_CODE_COUNT → move_of code ≡ Some m → move_of_text (text_of m) ≡ Some m
 move_of_text-coded m code below e =
     let h : HasMove code = has_move code below in

@@ -1,4 +1,4 @@
--- Counts in hand that no set has, stopped at the most that is counted or not.
+-- Counts in hand that no set has, saturated or not.
 use Rattle.std.proofs.Common.{◌≡◌, ℕ, ◌+◌, ◌≤◌, Bool, true, false, refl, sym, ◌∙◌, ap, subst, arith, List, [], ◌∷◌, length, Option, Some, None, min, inl, inr, length-set}
 use Rattle.std.specs.Prelude.{nat_lt, IfSome, unwrap_or, codes}
 use Rattle.std.specs.List.{list_any}
@@ -38,7 +38,7 @@ counted : (cells : Cells) (hands : HandCounts) (color : Color) (kind : Kind) →
 counted cells hands Black kind = omega arith
 counted cells hands White kind = omega arith
 
--- where there are no more than a set has, few are held
+-- if no kind has more than a set, at most 18 of each are held
 pub held_of_set : (cells : Cells) (hands : HandCounts) → has_too_many cells hands ≡ false → (color : Color) (kind : Kind) → count_in_hand hands color kind ≤ 18
 held_of_set cells hands e color kind =
     let test : Kind → Bool = λ (k : Kind). nat_lt (set_size k) (count_of k cells hands) in
@@ -63,7 +63,7 @@ too_many : (p : Shogi) → has_too_many p.cells p.hands ≡ true → fault_of p 
 unfolding fault_of
 too_many p e = cond-true (has_too_many p.cells p.hands) _ _ e
 
--- a position is judged alike with the counts and with those that stop at the most that is counted
+-- saturated counts have the same fault as exact counts
 pub judged-capped : (cells : Cells) (hands : HandCounts) (side : Color) (end : ℕ) → length hands ≡ 14
     → judged (fault_of (parts cells (capped hands) side)) (parts cells (capped hands) side) end ≡ judged (fault_of (parts cells hands side)) (parts cells hands side) end
 judged-capped cells hands side end len = elim (cases_Bool (has_too_many cells hands)) [
@@ -78,7 +78,7 @@ judged-capped cells hands side end len = elim (cases_Bool (has_too_many cells ha
   ]
 ]
 
--- hands keep their fourteen places
+-- reading keeps the fourteen counts
 kind_len : (hands : HandCounts) (n : ℕ) (color : Color) (kind : Option Kind) → IfSome (with_kind hands n color kind) (λ more. length more ≡ length hands)
 kind_len hands n color None = tt
 kind_len hands n color (Some kind) = length-set hands (place_of color kind) (count_in_hand hands color kind + n)

@@ -1,4 +1,4 @@
--- Words one after another.
+-- Words of a text, one after another.
 use Rattle.std.proofs.Common.{◌≡◌, ℕ, ◌+◌, ◌≤◌, ◌<◌, Bool, true, false, cond, not, refl, sym, ◌∙◌, ap, subst, arith, List, [], ◌∷◌, length, take, drop, Some, None, inl, inr}
 use Rattle.std.specs.Prelude.{suc, filter, unwrap_or, nat_lt, position}
 use Rattle.std.specs.List.{slice_split, onto_first, position_or_len, before_first}
@@ -7,7 +7,7 @@ use Rattle.std.proofs.lemmas.List.Sums.{prefix_len-le-length}
 use Rattle.std.proofs.lemmas.Bool.{cases_lt, lt-ltb, le-ltb, not_from_false, not_from_true}
 use Rattle.shogi_sfen.specs.Words.{is_blank, is_word_byte, has_bytes, words, from_word, after_word}
 
--- where nothing passes, a search by `position` gives the length
+-- a search that finds nothing gives the length
 unwrapped : (n len : ℕ) → n ≤ len → unwrap_or (cond (nat_lt n len) (Some n) None) len ≡ n
 unwrapped n len h = elim (cases_lt n len) [
   | inl below ↦ ap (λ (b : Bool). unwrap_or (cond b (Some n) None) len) (lt-ltb n len below)
@@ -26,7 +26,7 @@ position_or_len-yes p x xs e = ap (λ (b : Bool). cond (not b) (1 + position_or_
 pub position_or_len-no : (p : ℕ → Bool) (x : ℕ) (xs : List ℕ) → p x ≡ false → position_or_len p (x ∷ xs) ≡ suc (position_or_len p xs)
 position_or_len-no p x xs e = ap (λ (b : Bool). cond (not b) (1 + position_or_len p xs) 0) e ∙ omega arith
 
--- a blank in front
+-- a blank before a text adds no word
 pub words-blank : (b : ℕ) (bs : List ℕ) → is_blank b ≡ true → words (b ∷ bs) ≡ words bs
 unfolding words
 words-blank b bs e = ap (filter has_bytes) (slice_split-cons_yes is_blank b bs e)
@@ -35,12 +35,12 @@ words-from_word-cons : (b : ℕ) (bs : List ℕ) → words bs ≡ words (from_wo
 words-from_word-cons b bs ih true e = words-blank b bs e ∙ (ih ∙ ap (λ k. words (drop k (b ∷ bs))) (sym (position_or_len-no is_word_byte b bs (not_from_true (is_blank b) e))))
 words-from_word-cons b bs ih false e = ap (λ k. words (drop k (b ∷ bs))) (sym (position_or_len-yes is_word_byte b bs (not_from_false (is_blank b) e)))
 
--- blanks in front
+-- blanks before a text add no word
 pub words-from_word : (text : List ℕ) → words text ≡ words (from_word text)
 words-from_word [] = refl
 words-from_word (b ∷ bs) = words-from_word-cons b bs (words-from_word bs) (is_blank b) refl
 
--- the first part, and the words of what follows it
+-- the first part and the words after it
 record Cuts (xs : List ℕ) : Type 0 where
   more : List (List ℕ)
   parts : slice_split is_blank xs ≡ before_first is_blank xs ∷ more
@@ -64,7 +64,7 @@ unfolding words
 cuts [] = record { more = []; parts = refl; follow = refl }
 cuts (x ∷ xs) = cuts-cons x xs (cuts xs) (is_blank x) refl
 
--- a word in front
+-- a text that begins with a word byte has its first word up to the next blank
 words-inner : (c : ℕ) (cs : List ℕ) → is_blank c ≡ false → words (c ∷ cs) ≡ before_first is_blank (c ∷ cs) ∷ words (drop (position_or_len is_blank (c ∷ cs)) (c ∷ cs))
 unfolding words
 words-inner c cs e =
@@ -75,7 +75,7 @@ words-inner c cs e =
     ∙ (ap (λ (k : ℕ). take k (c ∷ cs) ∷ filter has_bytes cut.more) (sym n)
     ∙ ap (λ (ws : List (List ℕ)). before_first is_blank (c ∷ cs) ∷ ws) cut.follow))
 
--- a text from its first word on begins with an inner byte, if there is a word
+-- a text from its first word on begins with a byte of it, if there is a word
 record Begins (from : List ℕ) : Type 0 where
   head : ℕ
   tail : List ℕ
@@ -98,7 +98,7 @@ empty : (xs : List ℕ) → length xs ≡ 0 → xs ≡ []
 empty [] e = refl
 empty (x ∷ xs) e = absurd (omega arith)
 
--- where only blanks are left, there is no word
+-- a text of blanks has no word
 pub words-none : (text : List ℕ) → length (drop (position_or_len is_word_byte text) text) ≡ 0 → words text ≡ []
 unfolding words
 words-none text e = words-from_word text ∙ ap words (empty (from_word text) e)
@@ -107,12 +107,12 @@ words-at : (from : List ℕ) → Begins from → words from ≡ before_first is_
 words-at from b =
     subst (λ (xs : List ℕ). words xs ≡ before_first is_blank xs ∷ words (drop (position_or_len is_blank xs) xs)) (sym b.same) (words-inner b.head b.tail b.inner)
 
--- the first word, and the words after it
+-- the first word and the words after it
 pub words-some : (text : List ℕ) → 0 < length (drop (position_or_len is_word_byte text) text) → words text ≡ before_first is_blank (from_word text) ∷ words (after_word text)
 unfolding after_word
 words-some text h = words-from_word text ∙ words-at (from_word text) (begins text h)
 
--- a word that was cut off
+-- a word cut off from a text, with the rest
 pub record IsNextWord (text word rest : List ℕ) : Type 0 where
   pub first : words text ≡ word ∷ words rest
   pub after : rest ≡ after_word text
@@ -132,6 +132,6 @@ next_word text from word rest n k en ef h ek ew er =
     let all : words text ≡ word ∷ words rest = words-some text here ∙ (ap (λ (v : List ℕ). v ∷ words (after_word text)) w ∙ ap (λ (v : List ℕ). word ∷ words v) r) in
     record { first = all; after = sym r; fewer = shorter (words text) (words rest) word all }
 
--- no word is left
+-- no word is left if no byte of one is found
 pub no_word : (text from : List ℕ) (n : ℕ) → n ≡ position_or_len is_word_byte text → from ≡ drop n text → length from ≡ 0 → words text ≡ []
 no_word text from n en ef h = words-none text (ap length (sym (ef ∙ ap (λ (i : ℕ). drop i text) en)) ∙ h)

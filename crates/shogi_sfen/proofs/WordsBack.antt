@@ -1,4 +1,4 @@
--- The words of a written position, and the position that they say.
+-- The words of a written position are read as its parts.
 use Rattle.std.proofs.Common.{◌≡◌, ℕ, ◌+◌, ◌/◌, ◌%◌, ◌<◌, true, false, cond, refl, sym, ◌∙◌, ap, List, [], ◌∷◌, ◌++◌, get_or, append_assoc, append-nil, Option, Some, None}
 use Rattle.std.specs.Prelude.{◌==◌, zero, suc, nat_lt, filter, codes, Ok, slice_get}
 use Rattle.std.specs.List.{flat_map, range_with_len, slice_split, list_all, All}
@@ -108,13 +108,13 @@ side_back White = refl
 not_blank : (text : List ℕ) → list_all is_word_byte text ≡ true → All (λ x. is_blank x ≡ false) text
 not_blank text e = λ k d below. not-true (is_blank (get_or text k d)) (AllPass-from_list_all is_word_byte text e k d below)
 
--- a word, and a space after it
+-- a word before a space is the first word
 words_at : (word rest : List ℕ) → list_all is_word_byte word ≡ true → has_bytes word ≡ true → words (word ++ (32 ∷ rest)) ≡ word ∷ words rest
 unfolding words
 words_at word rest inner some =
     ap (filter has_bytes) (slice_split_at is_blank word 32 rest (not_blank word inner) refl) ∙ cond-true (has_bytes word) (word ∷ filter has_bytes (slice_split is_blank rest)) (filter has_bytes (slice_split is_blank rest)) some
 
--- a word at the end, or before a blank
+-- a word before a blank or the end is the first word
 last_word : (word tail : List ℕ) → list_all is_word_byte word ≡ true → has_bytes word ≡ true → EndsWord tail → slice_get (words (word ++ tail)) 0 ≡ Some word
 unfolding words
 last_word word [] inner some ends =
@@ -125,7 +125,7 @@ last_word word (b ∷ bs) inner some ends =
     ap (λ (ps : List (List ℕ)). slice_get (filter has_bytes ps) 0) (slice_split_at is_blank word b bs (not_blank word inner) ends)
     ∙ ap (λ (ws : List (List ℕ)). slice_get ws 0) (cond-true (has_bytes word) (word ∷ filter has_bytes (slice_split is_blank bs)) (filter has_bytes (slice_split is_blank bs)) some)
 
--- the three words
+-- the three words of a written position
 record Spoken (text board side hands : List ℕ) : Type 0 where
   one : slice_get (words text) 0 ≡ Some board
   two : slice_get (words text) 1 ≡ Some side
@@ -149,7 +149,7 @@ spoken p valid tail ends =
       three = ap (λ (ws : List (List ℕ)). slice_get ws 2) all ∙ last_word hands tail (inner_hands p.hands) (some_hands p.hands) ends;
     }
 
--- what was written is read again, at the end of a text or before a blank
+-- a written position is read back, before a blank or the end of the text
 pub written_back : (p : Shogi) → IsValid p → (tail : List ℕ) → EndsWord tail → position_at (position_text p ++ tail) ≡ Ok (p, end_of (position_text p ++ tail))
 unfolding position_at
 written_back p valid tail ends =

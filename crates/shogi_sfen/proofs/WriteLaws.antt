@@ -1,4 +1,4 @@
--- Texts that grow part by part.
+-- Texts written part by part.
 use Rattle.std.proofs.Common.{◌≡◌, ℕ, ◌+◌, ◌≤◌, ◌<◌, refl, sym, ◌∙◌, ap, arith, List, [], ◌∷◌, ◌++◌, length, take, get_or, append_assoc, append-nil, zero-add, add-one}
 use Rattle.std.specs.Prelude.{zero, suc, codes}
 use Rattle.std.specs.List.{flat_map, range_with_len}
@@ -17,7 +17,7 @@ range_more : (a n : ℕ) → range_with_len a (suc n) ≡ range_with_len a n ++ 
 range_more a zero = ap (λ (k : ℕ). k ∷ []) (omega arith)
 range_more a (suc n) = ap (λ (r : List ℕ). a ∷ r) (range_more (a + 1) n ∙ ap (λ (k : ℕ). range_with_len (a + 1) n ++ k ∷ []) (omega arith))
 
--- one more part
+-- one more part is written
 pub flat_range : (f : ℕ → List ℕ) (n : ℕ) (text : List ℕ) → text ≡ flat_map f (range_with_len 0 n) → text ++ f n ≡ flat_map f (range_with_len 0 (n + 1))
 flat_range f n text e =
     let last : flat_map f ((0 + n) ∷ []) ≡ f n = append-nil (f (0 + n)) ∙ ap f (zero-add n) in
@@ -44,7 +44,7 @@ nil (x ∷ xs) e = absurd (omega arith)
 nothing_added : (old more : List ℕ) → length (old ++ more) ≡ length old → length more ≡ 0
 nothing_added old more e = let n : length (old ++ more) ≡ length old + length more = length-append old more in omega arith
 
--- hands after a text
+-- the hands after a text, or a hyphen
 pub hands-none : (old black white new : List ℕ) (hands : HandCounts) → black ≡ old ++ side_held_text hands Black → white ≡ black ++ side_held_text hands White → length white ≡ length old → new ≡ white ++ 45 ∷ []
     → new ≡ old ++ hands_text hands
 unfolding hands_text
@@ -61,12 +61,12 @@ hands-some old black white hands b w e =
     let some : length (side_held_text hands Black ++ side_held_text hands White) ≡ 0 → ⊥ = λ none. e (ap length all ∙ (length-append old (side_held_text hands Black ++ side_held_text hands White) ∙ omega arith)) in
     all ∙ ap (λ (t : List ℕ). old ++ t) (sym (some_left (side_held_text hands Black ++ side_held_text hands White) some))
 
--- a valid position holds few of each kind
+-- in a valid position each count in hand is below 100
 pub few_held : (p : Shogi) → IsValid p → (color : Color) (kind : Kind) → count_in_hand p.hands color kind < 100
 unfolding fault_of
 few_held p v color kind = let few : count_in_hand p.hands color kind ≤ 18 = held_of_set p.cells p.hands (cond_none _ _ _ v.no_fault).0 color kind in omega arith
 
--- board, side and hands with a space between each two
+-- the written text is board, side and hands, with a space between
 pub assembled : (board a b c d side hands : List ℕ) (letter : ℕ) → a ≡ board ++ 32 ∷ [] → b ≡ a ++ letter ∷ [] → letter ∷ [] ≡ side → c ≡ b ++ 32 ∷ [] → d ≡ c ++ hands
     → d ≡ board ++ (32 ∷ (side ++ (32 ∷ hands)))
 assembled board a b c d side hands letter ea eb es ec ed =

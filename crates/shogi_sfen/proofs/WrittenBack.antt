@@ -1,4 +1,4 @@
--- A written position is read as that position.
+-- A written position is read back as itself.
 use Rattle.std.proofs.Common.{◌≡◌, ℕ, ◌+◌, ◌-◌, ◌*◌, ◌/◌, ◌%◌, ◌≤◌, ◌<◌, Bool, true, false, not, refl, sym, ◌∙◌, ap, arith, List, [], ◌∷◌, ◌++◌, length, take, get_or, append_assoc, append-nil, Option, Some, None, inl, inr, zero-add}
 use Rattle.std.specs.Prelude.{◌==◌, ◌&&◌, zero, suc, map, codes}
 use Rattle.std.specs.List.{flat_map, range_with_len, slice_split, list_all, All}
@@ -29,7 +29,7 @@ use Rattle.shogi_sfen.proofs.BoardLaws.{arranged}
 use Rattle.shogi_sfen.proofs.HandsBack.{held_back}
 use Rattle.shogi_sfen.proofs.HoldingLaws.{added, holding-held, holding_same}
 
--- all the counts of a side
+-- the hands after all counts of a side were added
 all_added : Color → (Kind → ℕ) → List Kind → HandCounts → HandCounts
 all_added color count [] hands = hands
 all_added color count (kind ∷ ks) hands = all_added color count ks (added hands color kind (count kind))
@@ -43,7 +43,7 @@ kinds_back color count small (kind ∷ ks) hands rest =
     ap (hands_from hands None) (append_assoc (held_text color kind (count kind)) others rest)
     ∙ (held_back color kind (count kind) hands (others ++ rest) (small kind) ∙ kinds_back color count small ks (added hands color kind (count kind)) rest)
 
--- the counts of both sides, put in their places
+-- adding both sides' counts gives the hands
 all_back : (hands : HandCounts) → length hands ≡ 14 → all_added White (count_in_hand hands White) kinds_in_text (all_added Black (count_in_hand hands Black) kinds_in_text no_hands) ≡ hands
 unfolding all_added
 all_back hands len = holding_same (λ color kind. 0 + count_in_hand hands color kind) (count_in_hand hands) (λ color kind. omega arith) ∙ sym (holding-held hands len)
@@ -70,7 +70,7 @@ hands_of-hands_text hands len small =
     ∙ ap Some (all_back hands len))) in
     finished (black ++ white) hands done
 
--- a byte that is no slash and no blank
+-- the byte is neither a slash nor a blank
 abbrev pub is_plain : ℕ → Bool
 is_plain byte = not (is_slash byte) && not (is_blank byte)
 
@@ -108,7 +108,7 @@ module _ (cells : Cells) where
   later_rank : (rank : ℕ) → rank_text cells (rank + 1) ≡ 47 ∷ part (rank + 1)
   later_rank rank = ap (λ (t : List ℕ). t ++ part (rank + 1)) (cond-false (rank + 1 == 0) [] (codes "/") (ne_eqb (rank + 1) 0 (λ e. omega arith)))
 
-  -- the ranks are the parts between slashes
+  -- the written ranks are the parts between slashes
   parts_from : (n rank : ℕ) → slice_split is_slash (part rank ++ flat_map (rank_text cells) (range_with_len (rank + 1) n)) ≡ map part (range_with_len rank (suc n))
   parts_from zero rank = ap (slice_split is_slash) (append-nil (part rank)) ∙ slice_split_none is_slash (part rank) (no_slash (part rank) (plain_cells (rank_cells cells rank) 0))
   parts_from (suc n) rank =
@@ -147,7 +147,7 @@ module _ (cells : Cells) where
       ∙ (ap (λ (r : ℕ). get_or (f r) i None) which
       ∙ get_or-map-range_with_len (λ i. piece_at cells ((8 - i) * 9 + rank)) 0 9 i i None hi (zero-add i)))
 
-  -- the squares of the ranks, put in their places, are the board
+  -- the cells of the ranks, put in their places, are the board
   pub board_from-ranks : length cells ≡ 81 → board_from (flat_map (rank_cells cells) (range_with_len 0 9)) ≡ cells
   board_from-ranks len =
       sym (arranged cells (flat_map (rank_cells cells) (range_with_len 0 9)) len (λ k below.

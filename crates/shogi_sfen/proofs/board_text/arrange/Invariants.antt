@@ -2,7 +2,7 @@ use Rattle.std.proofs.Common.{◌≡◌, ◌<◌, ℕ, get_or, length, None}
 use Rattle.shogi_sfen.specs.BoardTexts.{place_in_text}
 use Rattle.shogi_sfen.proofs.board_text.arrange.Given as goal
 
--- the squares so far stand in their places
+-- the cells so far are in their places
 abbrev pub invariant-loop-square : goal.invariant-loop-square
 invariant-loop-square l = record {
   len : length l.cells ≡ 81;
