@@ -1,4 +1,4 @@
--- Where there is a best move.
+-- When there is a best move.
 use Rattle.std.proofs.Common.{◌≡◌, ◌<◌, ℕ, zero, suc, ℤ, List, [], ◌∷◌, ◌⊎◌, ◌==◌, Bool, true, false, Option, Some, None, refl, ap, ◌∙◌, sym, inl, inr, find, is_some}
 use Rattle.std.specs.Prelude.{◌↔◌, IsNone, IfSome, int_lt}
 use Rattle.std.specs.Ordering.{int_eq}
@@ -17,13 +17,13 @@ use Rattle.minimax.proofs.Equal.{same_int_eq}
 use Rattle.minimax.proofs.MinimaxLaws.{value-suc, best_code-leaf, best_code-suc, best-leaf, best-code}
 use Rattle.minimax.proofs.Valid.{board_of, drop_of}
 
--- the number is one of the list, and the test passes it
+-- a number of the list passes the test
 pub record Passes (t : ℕ → Bool) (xs : List ℕ) : Type 0 where
   pub at : ℕ
   pub listed : is_in at xs ≡ true
   pub passed : t at ≡ true
 
--- the greatest is that of some move
+-- some move is worth the greatest worth
 greatest_reached : (f : ℕ → ℤ) (m : ℕ) (ms : List ℕ) → Passes (λ n. int_eq (f n) (greatest f m ms)) (m ∷ ms)
 greatest_reached f m [] = record { at = m; listed = or_left _ _ (eq-eqb m m refl); passed = same_int_eq (f m) (f m) refl }
 greatest_reached f m (k ∷ ks) =
@@ -31,7 +31,7 @@ greatest_reached f m (k ∷ ks) =
     (λ _. record { at = m; listed = or_left _ _ (eq-eqb m m refl); passed = same_int_eq (f m) (f m) refl })
     (λ _. let r : Passes (λ n. int_eq (f n) (greatest f k ks)) (k ∷ ks) = greatest_reached f k ks in record { at = r.at; listed = or_right (r.at == m) (is_in r.at (k ∷ ks)) r.listed; passed = r.passed })
 
--- what is not found is not there
+-- if `find` finds none, no number of the list passes
 find_passes : (t : ℕ → Bool) (n : ℕ) (xs : List ℕ) → is_in n xs ≡ true → t n ≡ true → find t xs ≡ None → ⊥
 find_passes t n [] i p e = both_ways false refl i
 find_passes t n (m ∷ xs) i p e =
@@ -71,7 +71,7 @@ none_at p eval d o [] q e n = e
 none_at p eval d None (m ∷ ms) q e n = absurd (found_at p eval d m ms e q)
 none_at p eval d (Some b) (m ∷ ms) q e n = absurd (code_none b (legal_code_below p b (legal_in p 0 b (best_in p eval (suc d) b q))) (sym (best-code p eval (suc d) (Some b) q) ∙ n))
 
--- without a best move the depth is 0 or no move is legal
+-- if there is no best move, the depth is 0 or no move is legal
 pub best_none : (p : Shogi) (eval : Eval) (d : ℕ) → best p eval d ≡ None → (d ≡ 0) ⊎ (legal_codes p ≡ [])
 best_none p eval zero n = inl refl
 best_none p eval (suc d) n = inr (none_at p eval d (best_code p eval (suc d)) (legal_codes p) refl refl n)
@@ -87,7 +87,7 @@ none_is : (o : Option Move) → is_some o ≡ false → o ≡ None
 none_is None e = refl
 none_is (Some m) e = absurd (cc)
 
--- the same of what a search found
+-- a search finds no best move if and only if the depth is 0 or no move is legal
 pub none_iff : (p : Shogi) (eval : Eval) (d : ℕ) (o : Option Move) → o ≡ best p eval d → (IsNone o ↔ ((d ≡ 0) ⊎ (legal_codes p ≡ [])))
 none_iff p eval d o e = (
   λ n. best_none p eval d (sym e ∙ none_is o n),
@@ -98,7 +98,7 @@ legal_at : (p : Shogi) (eval : Eval) (d : ℕ) (o : Option ℕ) (m : Move) → b
 legal_at p eval d None m q e = absurd (cc)
 legal_at p eval d (Some b) m q e = sym (is_legal_code_of p b m e) ∙ legal_in p 0 b (best_in p eval d b q)
 
--- a best move is legal, said of the move
+-- a best move is legal, as a move instead of a code
 pub legal_best : (p : Shogi) (eval : Eval) (d : ℕ) (o : Option Move) → o ≡ best p eval d → IfSome o (λ m. is_legal p m ≡ true)
 legal_best p eval d None e = tt
 legal_best p eval d (Some m) e = legal_at p eval d (best_code p eval d) m refl (sym (best-code p eval d (best_code p eval d) refl) ∙ sym e)

@@ -1,4 +1,4 @@
--- How what is known of a node's moves changes while the search goes through them.
+-- How knowledge of a node's moves grows during a search.
 use Rattle.std.proofs.Common.{◌≡◌, ◌<◌, ℕ, ℤ, ◌≤ℤ◌, ◌<ℤ◌, List, [], ◌∷◌, Option, Some, None, refl, ap, sym, arith, subst, inl, inr, find}
 use Rattle.std.specs.Ordering.{int_eq}
 use Rattle.std.proofs.lemmas.Int.{ints}
@@ -10,7 +10,7 @@ use Rattle.minimax.specs.Window.{move_alpha, IsCovered}
 use Rattle.minimax.proofs.Greatest.{greatest_or-above, greatest_or-least, find_first}
 use Rattle.minimax.proofs.Equal.{same_int_eq, less_int_eq}
 
--- at the start no move is answered, and the best so far is the lower bound
+-- at the start no move is covered, and the best value is alpha
 pub IsCovered-start : (f : ℕ → ℤ) (all : List ℕ) (alpha : ℤ) → IsCovered f all all alpha alpha None
 IsCovered-start f all alpha = record {
   among = λ n i. i;
@@ -32,7 +32,7 @@ below_lesser v best_value b n lt h = grind (arith, ints, nat_tests)
 at_itself : (f : ℕ → ℤ) (v : ℤ) (m n : ℕ) → n ≡ m → f m ≡ v → f n ≤ℤ move_alpha v (Some m) n
 at_itself f v m n same e = let q : f n ≡ f m = ap f same in grind (arith, ints, nat_tests)
 
--- a move that doesn't pass its threshold
+-- a move that does not exceed its alpha is covered
 pub IsCovered-skip : (f : ℕ → ℤ) (all rest : List ℕ) (alpha best_value : ℤ) (b : Option ℕ) (m : ℕ) → IsCovered f all (m ∷ rest) alpha best_value b → f m ≤ℤ move_alpha best_value b m → IsCovered f all rest alpha best_value b
 IsCovered-skip f all rest alpha best_value b m h le = record {
   among = λ n i. h.among n (or_right _ _ i);
@@ -40,7 +40,7 @@ IsCovered-skip f all rest alpha best_value b m h le = record {
   reached = h.reached;
 }
 
--- a move that passes its threshold is the best move
+-- a move that exceeds its alpha becomes the best move
 pub IsCovered-raise : (f : ℕ → ℤ) (all rest : List ℕ) (alpha best_value v : ℤ) (b : Option ℕ) (m : ℕ) → IsCovered f all (m ∷ rest) alpha best_value b → f m ≡ v → move_alpha best_value b m <ℤ v → IsCovered f all rest alpha v (Some m)
 IsCovered-raise f all rest alpha best_value v b m h e lt = record {
   among = λ n i. h.among n (or_right _ _ i);
@@ -48,7 +48,7 @@ IsCovered-raise f all rest alpha best_value v b m h e lt = record {
   reached = (h.among m (or_left _ _ (eq-eqb m m refl)), e);
 }
 
--- at the end a best move is the first one that is worth the most
+-- at the end the best move is the first of greatest worth
 pub ended_exact : (otherwise : ℤ) (f : ℕ → ℤ) (all : List ℕ) (alpha best_value : ℤ) (b : ℕ) → IsRising all → IsCovered f all [] alpha best_value (Some b) → greatest_or otherwise f all ≡ best_value
 ended_exact otherwise f all alpha best_value b r h =
     let up : greatest_or otherwise f all ≤ℤ best_value = greatest_or-least otherwise f all b best_value h.reached.0 (λ n i. let at_threshold : f n ≤ℤ move_alpha best_value (Some b) n = h.below n i refl in let le : move_alpha best_value (Some b) n ≤ℤ best_value = move_alpha-best_value best_value (Some b) n in omega (arith, ints)) in
@@ -61,7 +61,7 @@ ended_first f all alpha best_value b r h =
     find_first (λ m. int_eq (f m) best_value) all b r h.reached.0 (same_int_eq _ _ h.reached.1)
     (λ n i lt. less_int_eq _ _ (below_lesser (f n) best_value b n lt (h.below n i refl)))
 
--- at the end without a best move, no move is worth more than the lower bound
+-- at the end without a best move, no move is worth more than alpha
 pub ended_low : (otherwise : ℤ) (f : ℕ → ℤ) (m : ℕ) (ms : List ℕ) (alpha best_value : ℤ) → IsCovered f (m ∷ ms) [] alpha best_value None → greatest_or otherwise f (m ∷ ms) ≤ℤ best_value
 ended_low otherwise f m ms alpha best_value h = greatest_or-least otherwise f (m ∷ ms) m best_value (or_left _ _ (eq-eqb m m refl)) (λ n i. h.below n i refl)
 

@@ -1,4 +1,4 @@
--- The best line, and what it costs, one move at a time.
+-- The principal variation and its cost, one move at a time.
 use Rattle.std.proofs.Common.{◌≡◌, ◌+◌, ◌*◌, ◌-◌, ◌<◌, ℕ, zero, suc, [], ◌∷◌, Some, None, refl, arith}
 use Rattle.shogi_core.specs.declared.moves.Move.{Move}
 use Rattle.shogi_core.specs.Position.{Shogi}
@@ -14,7 +14,7 @@ pv-suc : (p : Shogi) (eval : Eval) (d : ℕ) → pv p eval (suc d) ≡ then_pv (
 unfolding pv
 pv-suc p eval d = refl
 
--- at a depth of at least 1
+-- the principal variation at a depth of at least 1
 pub pv-above : (p : Shogi) (eval : Eval) (d : ℕ) → 0 < d → pv p eval d ≡ then_pv (λ q. pv q eval (d - 1)) p (best p eval d)
 pv-above p eval zero h = absurd (omega arith)
 pv-above p eval (suc d) h = let e : suc d - 1 ≡ d = omega arith in rw e (pv-suc p eval d)

@@ -1,4 +1,4 @@
--- What is left by the move that ends a line, settled or not.
+-- The material after the move that ends a line, with or without an exchange.
 use Rattle.std.proofs.Common.{◌≡◌, ℕ, zero, suc, ℤ, pos, ◌-ℤ◌, ◌≤ℤ◌, List, [], ◌∷◌, true, false, cond, not, Option, Some, None, refl, ap, arith, subst}
 use Rattle.std.specs.Prelude.{nat_lt, ◌&&◌}
 use Rattle.std.proofs.lemmas.Int.{ints, clamps}
@@ -33,7 +33,7 @@ cheapest_in p s all best (c ∷ cs) b sub h e =
     (λ x. cond_both (takes_on p s (move_of c)) (cheaper p best c) best (λ (o : Option ℕ). o ≡ Some x → is_in x all ≡ true) (λ _ r. cheaper_in p c all best x i h r) (λ _ r. h x r))
     e
 
--- what takes is legal
+-- the least valuable attacker's capture is legal
 pub taker_in : (p : Shogi) (s code : ℕ) → least_valuable_attacker p s ≡ Some code → is_in code (legal_codes p) ≡ true
 taker_in p s code e = cheapest_in p s (legal_codes p) None (legal_codes p) code (λ n i. i) (λ x q. absurd (cc)) e
 
@@ -45,7 +45,7 @@ settled-next : (p : Shogi) (e : Eval) (s n : ℕ) → settled p e s (suc n) ≡ 
 unfolding settled
 settled-next p e s n = refl
 
--- within the bounds of material
+-- the value is within the bounds of material
 pub record IsBounded (v : ℤ) : Type 0 where
   pub least : (pos 0 -ℤ pos POINTS_MAX) ≤ℤ v
   pub most : v ≤ℤ pos POINTS_MAX
@@ -75,7 +75,7 @@ best_bounded p e n (suc s) v =
     let rest : IsBounded (most_settled p e n s) = best_bounded p e n s v in
     record { least = omega (arith, ints, clamps, here.least, rest.least); most = omega (arith, ints, clamps, here.most, rest.most) }
 
--- a side that may stand has no less than its material
+-- a side that may stand has at least its material
 stand_least : (has : ℤ) (f : ℕ → ℤ) (o : Option ℕ) → has ≤ℤ stand_or_take has f o
 stand_least has f None = omega (arith, ints)
 stand_least has f (Some code) = omega (arith, ints, clamps)
@@ -89,7 +89,7 @@ unfolding most_settled
 best_least p e n zero = settled_least p e 0 n
 best_least p e n (suc s) = let here : material_of p e ≤ℤ settled p e (suc s) n = settled_least p e (suc s) n in omega (arith, ints, clamps, here)
 
--- what is left by a move lies within the bounds of material
+-- the points after a move that ends a line are within the bounds of material
 pub left_bounded : (p : Shogi) (e : Eval) (code : ℕ) → IsValid (after_code p code) → IsBounded (leaf_after p e code)
 left_bounded p Plain code v = bounded_material (after_code p code) Plain v
 left_bounded p Hand code v = bounded_material (after_code p code) Hand v
@@ -97,7 +97,7 @@ left_bounded p Exchange code v =
     cond_both (is_quiet p (move_of code)) (material_of (after_code p code) Exchange) (best_settled (after_code p code) Exchange) IsBounded
     (λ _. bounded_material (after_code p code) Exchange v) (λ _. best_bounded (after_code p code) Exchange captures_max 80 v)
 
--- the other side has no less than its material then
+-- after a move the opponent has at least its material
 pub left_least : (p : Shogi) (e : Eval) (code : ℕ) → material_of (after_code p code) e ≤ℤ leaf_after p e code
 left_least p Plain code = omega (arith, ints)
 left_least p Hand code = omega (arith, ints)
@@ -105,7 +105,7 @@ left_least p Exchange code =
     cond_both (is_quiet p (move_of code)) (material_of (after_code p code) Exchange) (best_settled (after_code p code) Exchange) (λ (v : ℤ). material_of (after_code p code) Exchange ≤ℤ v)
     (λ _. omega (arith, ints)) (λ _. best_least (after_code p code) Exchange captures_max 80)
 
--- and after a quiet move just that
+-- after a quiet move the opponent has just its material
 pub left_quiet : (p : Shogi) (e : Eval) (code : ℕ) → is_quiet p (move_of code) ≡ true → leaf_after p e code ≡ material_of (after_code p code) e
 left_quiet p Plain code q = refl
 left_quiet p Hand code q = refl
@@ -113,7 +113,7 @@ left_quiet p Exchange code q =
     cond_both (is_quiet p (move_of code)) (material_of (after_code p code) Exchange) (best_settled (after_code p code) Exchange) (λ (v : ℤ). v ≡ material_of (after_code p code) Exchange)
     (λ _. refl) (λ loud. absurd (cc))
 
--- so it is after every move where the evaluation settles nothing
+-- if the evaluation settles no exchange, after any move the opponent has just its material
 pub left_plain : (p : Shogi) (e : Eval) (code : ℕ) → resolves_captures e ≡ false → leaf_after p e code ≡ material_of (after_code p code) e
 left_plain p Plain code q = refl
 left_plain p Hand code q = refl

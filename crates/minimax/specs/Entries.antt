@@ -6,29 +6,29 @@ use Rattle.minimax.specs.declared.entry.Entry.TheVariants.{Exact, AtLeast, AtMos
 use Rattle.minimax.specs.Minimax.{negated}
 use Rattle.minimax.specs.declared.bounds.TheConstants.{INFINITY}
 
--- an entry says enough for a window: the value, or that it lies at or above high, or at or below low
+-- the entry answers a search with this window: it is exact, at least beta, or at most alpha
 abbrev pub IsConclusive : ℤ → ℤ → Entry → Type 0
 IsConclusive alpha beta (Exact v m) = Unit {0}
 IsConclusive alpha beta (AtLeast v) = beta ≤ℤ v
 IsConclusive alpha beta (AtMost v) = v ≤ℤ alpha
 
--- the answer says enough for a window
+-- there is an entry, and it answers a search with this window
 abbrev pub IsEnough : ℤ → ℤ → Option Entry → Type 0
 IsEnough alpha beta None = ⊥
 IsEnough alpha beta (Some e) = IsConclusive alpha beta e
 
--- the answer says enough for a search below a bound
+-- there is an entry, and it answers a search with the lowest alpha and this beta
 abbrev pub IsEnoughBelow : ℤ → Option Entry → Type 0
 IsEnoughBelow beta answer = IsEnough (negated INFINITY) beta answer
 
--- the answer is the value itself
+-- there is an entry, and it is exact
 abbrev pub IsExactly : Option Entry → Type 0
 IsExactly None = ⊥
 IsExactly (Some (Exact v m)) = Unit {0}
 IsExactly (Some (AtLeast v)) = ⊥
 IsExactly (Some (AtMost v)) = ⊥
 
--- the best move, where the answer is the value itself
+-- the best move of an exact entry
 abbrev pub move_in : Option Entry → Option Move
 move_in None = None
 move_in (Some (Exact v m)) = m

@@ -9,12 +9,12 @@ abbrev pub code_at : Option Move → Option ℕ
 code_at None = None
 code_at (Some m) = Some (code_of m)
 
--- the worth that a move has to pass: the best so far, and one less for a move of lesser code than the best move
+-- the alpha that a move has to exceed: the best value so far, less one if the move's code is below that of the best move
 abbrev pub move_alpha : ℤ → Option ℕ → ℕ → ℤ
 move_alpha best_value None n = best_value
 move_alpha best_value (Some b) n = if nat_lt n b then best_value -ℤ pos 1 else best_value
 
--- each move of all that is not in todo is worth at most its alpha; a best move is worth the best so far
+-- each move of `all` that is not in `todo` is worth at most its alpha, and the best move is worth the best value so far
 pub record IsCovered (worth_of : ℕ → ℤ) (all todo : List ℕ) (alpha best_value : ℤ)
     (best_move : Option ℕ) : Type 0 where
   pub among : (n : ℕ) → is_in n todo ≡ true → is_in n all ≡ true

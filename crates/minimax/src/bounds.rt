@@ -1,9 +1,9 @@
-//! The numbers that values and depths stay within.
+//! Limits of values and depths.
 
-/// What a win is worth, to which the plies that are left are added (own choice).
+/// The value of a win, to which the plies left are added (own choice).
 pub const MATE: i32 = 30_000;
 
-/// The ends of the whole window lie this far from 0: no position is worth as much (own choice).
+/// The ends of the full window, as distance from 0; every value lies inside (own choice).
 pub const INFINITY: i32 = 31_000;
 
 /// The greatest depth of a search (own choice).

@@ -1,5 +1,5 @@
-//! Minimax at a fixed depth: the value of a position and its best move, as definitions, and what is
-//! known of them while and after a search. The definitions stand in `specs`, their laws in `proofs`.
+//! Minimax at a fixed depth: definitions of a position's value and best move, and of what a search
+//! knows of them on the way and at the end. `specs` has the definitions, `proofs` their laws.
 #![tactic(auto)]
 
 mod bounds;

@@ -1,4 +1,4 @@
--- One set of pieces bounds what a side has.
+-- One set of pieces bounds the points of a side.
 use Rattle.std.proofs.Common.{◌≡◌, ◌≤◌, ◌+◌, ◌*◌, ℕ, pos, ◌-ℤ◌, ◌≤ℤ◌, [], ◌∷◌, cond, Option, Some, None, arith}
 use Rattle.std.specs.Prelude.{count_by}
 use Rattle.std.proofs.lemmas.List.Sums.{sum_by-cons}
@@ -21,11 +21,11 @@ use Rattle.shogi_eval.specs.declared.eval.Eval.{Eval}
 use Rattle.shogi_eval.specs.declared.eval.Eval.TheVariants.{Plain, Hand, Exchange}
 use Rattle.shogi_eval.specs.Material.{points_at, points_on_board, points_in_hand, points_of, material_of}
 
--- one where the cell holds a piece of the kind
+-- 1 if the cell holds a piece of the kind, else 0
 abbrev tally : Kind → Option Piece → ℕ
 tally kind cell = cond (is_of_kind kind cell) 1 0
 
--- a value of each kind that no piece of it passes
+-- the greatest points that counts of each kind can make
 abbrev most : (Kind → ℕ) → ℕ
 most n = 600 * n kinds.Pawn + 600 * n kinds.Lance + 600 * n kinds.Knight + 600 * n kinds.Silver + 660 * n kinds.Gold + 1100 * n kinds.Bishop + 1300 * n kinds.Rook
 
@@ -55,7 +55,7 @@ hand_within hands Plain color = omega arith
 hand_within hands Hand color = omega arith
 hand_within hands Exchange color = omega arith
 
--- a side holds no more of a kind than both do
+-- a side has at most the pieces of a kind that both sides have
 side_within : (cells : Cells) (hands : HandCounts) (color : Color) (kind : Kind) → count_by (is_of_kind kind) cells + count_in_hand hands color kind ≤ count_of kind cells hands
 side_within cells hands Black kind = omega arith
 side_within cells hands White kind = omega arith
@@ -87,7 +87,7 @@ faultless_within p e color h =
 pub points_within : (p : Shogi) (e : Eval) (color : Color) → IsValid p → points_of p e color ≤ POINTS_MAX
 points_within p e color v = faultless_within p e color (faultless_from p v.no_fault)
 
--- the material of a valid position
+-- the material of a valid position is within `POINTS_MAX`
 pub material_bounds : (p : Shogi) (e : Eval) → IsValid p → ((pos 0 -ℤ pos POINTS_MAX) ≤ℤ material_of p e) × (material_of p e ≤ℤ pos POINTS_MAX)
 unfolding material_of
 material_bounds p e v =

@@ -1,7 +1,7 @@
 use Rattle.shogi_core.specs.declared.piece.Kind.{Kind}
 use Rattle.shogi_core.specs.declared.piece.Kind.TheVariants as kinds
 
--- what is so of each kind
+-- a fact of each of the seven kinds is one of every kind
 pub by_kind : (fact : Kind → Type 0) → fact kinds.Pawn → fact kinds.Lance → fact kinds.Knight → fact kinds.Silver → fact kinds.Gold → fact kinds.Bishop → fact kinds.Rook → (kind : Kind) → fact kind
 by_kind fact p l n s g b r kinds.Pawn = p
 by_kind fact p l n s g b r kinds.Lance = l

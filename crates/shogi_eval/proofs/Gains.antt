@@ -1,4 +1,4 @@
--- What a move does to the material.
+-- How a move changes the material.
 use Rattle.std.proofs.Common.{◌≡◌, ◌≢◌, ◌≤◌, ◌<◌, ◌+◌, ◌*◌, ◌-◌, ℕ, ℤ, pos, ◌-ℤ◌, ◌+ℤ◌, List, length, length-set, get_or, set, Bool, true, false, cond, Option, Some, None, refl, ap, sym, subst, arith, get_or-set_same, get_or-set_other}
 use Rattle.std.specs.Prelude.{sum_by, slice_set}
 use Rattle.std.proofs.lemmas.List.Sums.{sum_by-set}
@@ -28,12 +28,12 @@ use Rattle.shogi_eval.specs.declared.eval.Eval.{Eval}
 use Rattle.shogi_eval.specs.declared.eval.Eval.TheVariants.{Plain, Hand, Exchange}
 use Rattle.shogi_eval.specs.Material.{points_at, points_in_hand, points_of, material_of, value_of, value_in_hand, value_of_captured, taken_gain, promotion_gain, drop_gain}
 
--- what a move gains for its side
+-- the points that a move gains its side
 abbrev pub gain_of : Shogi → Eval → Move → ℤ
 gain_of p e (Board from to promote) = pos (taken_gain e (piece_at p.cells to) + promotion_gain promote (piece_at p.cells from))
 gain_of p e (Drop kind to) = drop_gain e kind
 
--- a sum over the cells after a move from a to b
+-- a sum over the cells after a piece moves from a to b
 sum_moved : (f : Option Piece → ℕ) (xs : List (Option Piece)) (a b : ℕ) (v : Option Piece) → f None ≡ 0 → a < length xs → b < length xs → b ≢ a
     → sum_by f (set (set xs a None) b v) + f (get_or xs a None) + f (get_or xs b None) ≡ sum_by f xs + f v
 sum_moved f xs a b v none ha hb other =
@@ -43,7 +43,7 @@ sum_moved f xs a b v none ha hb other =
     let second' : sum_by f (set (set xs a None) b v) + f (get_or xs b None) ≡ sum_by f (set xs a None) + f v = rw same at second in
     omega arith
 
--- a count in hand that is written
+-- the points in hand after one count is written
 in_hand_set : (hands : HandCounts) (eval : Eval) (side : Color) (kind : Kind) (n : ℕ) → length hands ≡ 14 → points_in_hand (slice_set hands (place_of side kind) n) eval side + count_in_hand hands side kind * value_in_hand eval kind ≡ points_in_hand hands eval side + n * value_in_hand eval kind
 in_hand_set hands Plain Black kinds.Pawn n len = grind (arith, common_steps, get_or-set_same, get_or-set_other)
 in_hand_set hands Plain Black kinds.Lance n len = grind (arith, common_steps, get_or-set_same, get_or-set_other)
@@ -124,12 +124,12 @@ opponent_twice : (s : Color) → opponent_of (opponent_of s) ≡ s
 opponent_twice Black = refl
 opponent_twice White = refl
 
--- what stands on a square, whoever has it
+-- the points in a cell, of either side
 abbrev points_there : Option Piece → ℕ
 points_there None = 0
 points_there (Some piece) = value_of piece.role
 
--- what its capture brings to hand
+-- the points that capturing a piece brings to hand
 abbrev captured_gain : Eval → Option Piece → ℕ
 captured_gain eval None = 0
 captured_gain eval (Some piece) = value_of_captured eval (kind_of piece.role)
@@ -212,7 +212,7 @@ board_other p eval from to promote v f t ne safe =
 apart : (p : Shogi) (from to : ℕ) (promote : Bool) → IsSafeBoardMove p from to promote → to ≢ from
 apart p from to promote safe e = both_ways (is_piece_of p.side (piece_at p.cells from)) (subst (λ (x : ℕ). is_piece_of p.side (piece_at p.cells x) ≡ false) e safe.free) safe.own
 
--- the material after a move on the board, from the other side
+-- the material after a move on the board, as seen by the opponent
 pub material_after_board : (p : Shogi) (eval : Eval) (from to : ℕ) (promote : Bool) → IsValid p → from < 81 → to < 81 → is_legal p (Board from to promote) ≡ true
     → material_of (after p (Board from to promote)) eval ≡ pos 0 -ℤ (material_of p eval +ℤ gain_of p eval (Board from to promote))
 unfolding material_of
@@ -249,7 +249,7 @@ drop_other p eval kind to v t e =
     let there : points_at (opponent_of p.side) (dropped p.side kind) ≡ 0 = cond-false _ _ _ (same_other p.side p.side (same_itself p.side)) in
     omega (arith, board, hand)
 
--- the material after a drop, from the other side
+-- the material after a drop, as seen by the opponent
 pub material_after_drop : (p : Shogi) (eval : Eval) (kind : Kind) (to : ℕ) → IsValid p → to < 81 → is_legal p (Drop kind to) ≡ true
     → material_of (after p (Drop kind to)) eval ≡ pos 0 -ℤ (material_of p eval +ℤ gain_of p eval (Drop kind to))
 unfolding material_of
@@ -260,7 +260,7 @@ material_after_drop p eval kind to v t l =
     let twice : points_of (after p (Drop kind to)) eval (opponent_of (opponent_of p.side)) ≡ points_of (after p (Drop kind to)) eval p.side = ap (points_of (after p (Drop kind to)) eval) (opponent_twice p.side) in
     omega (arith, ints, own, other)
 
--- the same of a move that is one of them
+-- the material after a move known to be on the board, as seen by the opponent
 pub material_at_board : (p : Shogi) (eval : Eval) (m : Move) (from to : ℕ) (promote : Bool) → m ≡ Board from to promote → IsValid p → from < 81 → to < 81 → is_legal p m ≡ true
     → material_of (after p m) eval ≡ pos 0 -ℤ (material_of p eval +ℤ pos (taken_gain eval (piece_at p.cells to) + promotion_gain promote (piece_at p.cells from)))
 material_at_board p eval m from to promote e v f t l = subst (λ (x : Move). is_legal p x ≡ true → material_of (after p x) eval ≡ pos 0 -ℤ (material_of p eval +ℤ pos (taken_gain eval (piece_at p.cells to) + promotion_gain promote (piece_at p.cells from)))) (sym e) (material_after_board p eval from to promote v f t) l

@@ -10,7 +10,7 @@ use Rattle.shogi_eval.specs.declared.eval.Eval.{Eval}
 use Rattle.shogi_eval.specs.declared.eval.Eval.TheVariants.{Plain, Hand, Exchange}
 use Rattle.shogi_eval.specs.Material.{material_of}
 
--- two evaluations are the same
+-- both are the same evaluation
 abbrev pub is_same_eval : Eval → Eval → Bool
 is_same_eval Plain Plain = true
 is_same_eval Hand Hand = true
@@ -21,11 +21,11 @@ pub record Evaluated : Type 0 where
   pub position : Shogi
   pub eval : Eval
 
--- the material after a move, from the side that is to move then
+-- the material after a move, as seen by the side to move then
 abbrev pub material_after : Evaluated → Move → ℤ
 material_after node m = material_of (after node.position m) node.eval
 
--- the material after each legal drop of the kind
+-- each legal drop of the kind leaves this material
 abbrev pub IsMaterialAfterDrops : Evaluated → Kind → ℤ → Type 0
 IsMaterialAfterDrops node kind points =
     (to : ℕ) → to < 81 → is_legal node.position (moves.Drop kind to) ≡ true

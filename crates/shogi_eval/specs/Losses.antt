@@ -6,11 +6,11 @@ use Rattle.shogi_core.specs.Position.{HandCounts, count_in_hand}
 use Rattle.shogi_eval.specs.declared.eval.Eval.{Eval}
 use Rattle.shogi_eval.specs.Material.{drop_gain}
 
--- a drop of the kind takes no more than this, where the side holds one
+-- a drop of the kind costs at most `loss`, if the side holds one
 abbrev pub KindLosesAtMost : HandCounts → Color → Eval → ℤ → Kind → Type 0
 KindLosesAtMost hands side e loss kind =
     0 < count_in_hand hands side kind → (pos 0 -ℤ loss) ≤ℤ drop_gain e kind
 
--- no drop of a kind that the side holds takes more than this
+-- a drop of any kind that the side holds costs at most `loss`
 abbrev pub LosesAtMost : HandCounts → Color → Eval → ℤ → Type 0
 LosesAtMost hands side e loss = (kind : Kind) → KindLosesAtMost hands side e loss kind

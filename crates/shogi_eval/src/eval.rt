@@ -1,23 +1,23 @@
-//! By which values a position is judged.
+//! The evaluations to choose from.
 
 ghost use Rattle.std.specs.Prelude.{◌≡◌, ◌↔◌, IsTrue};
 ghost use Rattle.shogi_eval.specs.Evaluated.{is_same_eval};
 ghost use Rattle.shogi_eval.specs.Exchange.{resolves_captures};
 
-/// The values that material is summed by (own choice).
+/// How material is counted (own choice).
 #[derive(Clone, Copy, Debug, PartialEq, Eq, Hash)]
 pub enum Eval {
-    /// A piece in hand is worth what it is on the board.
+    /// A piece in hand counts as on the board.
     Plain,
-    /// A piece in hand is worth a tenth more.
+    /// A piece in hand counts a tenth more than on the board.
     Hand,
-    /// As `Plain`, but a capture or a promotion at the end of a line is answered by the best exchange
+    /// Counts as `Plain`; a capture or promotion that ends a line is answered by the best exchange
     /// on one square.
     Exchange,
 }
 
 impl Eval {
-    /// Whether captures and promotions at the end of a line are settled.
+    /// Whether exchanges are settled after a capture or promotion that ends a line.
     pub fn resolves_captures(self) -> bool
         ensures { result ≡ resolves_captures self }
     {
@@ -27,7 +27,7 @@ impl Eval {
         }
     }
 
-    /// Whether the two are one evaluation.
+    /// Whether both are the same evaluation.
     pub fn is_same(self, other: Eval) -> bool
         ensures value { result ≡ is_same_eval self other }
         ensures equal { IsTrue result ↔ (self ≡ other) }

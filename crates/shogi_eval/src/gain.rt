@@ -1,4 +1,4 @@
-//! What a move does to the material.
+//! How a move changes the material.
 
 ghost use Rattle.std.specs.Prelude.{◌≡◌, ◌≤◌, ◌*◌, ◌≤ℤ◌, ◌-ℤ◌, pos, true};
 ghost use Rattle.shogi_eval.specs.declared.gain.TheConstants.{PROMOTION_GAIN_MAX};
@@ -11,11 +11,11 @@ use crate::eval::Eval;
 use crate::points::{value_in_hand, value_of};
 use shogi_core::{Kind, Move, Piece, Position, Role};
 
-/// The most that a promotion gains, in points: that of a pawn.
+/// The most points that a promotion gains: those of a pawn.
 pub const PROMOTION_GAIN_MAX: u32 = 500;
 
-// What a capture gains of each role, and what its promotion gains, in the order in which roles are
-// declared.
+// The points that capturing each role gains, and those that promoting it gains, in the order in
+// which roles are declared.
 const PLAIN_GAINS: [u32; 14] = [
     0, 200, 600, 800, 1000, 1200, 1600, 2000, 700, 900, 1000, 1100, 1900, 2300,
 ];
@@ -26,7 +26,7 @@ const HAND_GAINS: [u32; 14] = [
 
 const PROMOTION_GAINS: [u32; 14] = [0, 500, 300, 200, 100, 0, 300, 300, 0, 0, 0, 0, 0, 0];
 
-/// What a capture gains, in points: the piece is lost to its side and comes to hand.
+/// The points that a capture gains: the opponent loses the piece and the captor holds it.
 #[tactic(auto, using(crate::proofs::RoleGains::gains))]
 pub fn taken_gain(e: Eval, cell: Option<Piece>) -> u32
     ensures value { result ≡ taken_gain e cell }
@@ -39,7 +39,7 @@ pub fn taken_gain(e: Eval, cell: Option<Piece>) -> u32
     }
 }
 
-/// What a move of the piece gains by promotion, in points: nothing where it does not promote.
+/// The points that a move of the piece gains by promotion; 0 if it does not promote.
 #[tactic(auto, using(crate::proofs::RoleGains::gains))]
 pub fn promotion_gain(cell: Option<Piece>, promote: bool) -> u32
     ensures value { result ≡ promotion_gain promote cell }
@@ -57,7 +57,7 @@ pub fn promotion_gain(cell: Option<Piece>, promote: bool) -> u32
     }
 }
 
-/// What a drop gains, in points: the piece leaves the hand and stands on the board.
+/// The points that a drop gains, at most 0: the piece leaves the hand for the board.
 pub fn drop_gain(e: Eval, kind: Kind) -> i32
     ensures value { result ≡ drop_gain e kind }
     ensures least { (pos 0 -ℤ pos PIECE_VALUE_MAX) ≤ℤ result }
@@ -69,7 +69,7 @@ pub fn drop_gain(e: Eval, kind: Kind) -> i32
     }
 }
 
-/// The material after a legal move, from the side that is to move then.
+/// The material after a legal move, as seen by the side to move then.
 #[inline(always)]
 pub fn score_after(p: &Position, e: Eval, score: i32, m: &Move) -> i32
     requires legal { is_legal p.now m.now ≡ true }

@@ -1,4 +1,4 @@
-//! What a position is worth by its material.
+//! Evaluation of positions by material.
 #![tactic(auto)]
 
 mod eval;

@@ -1,4 +1,4 @@
-//! What a drop takes from the material of its side, at most.
+//! Bounds on the points that a drop costs its side.
 
 ghost use Rattle.std.specs.Prelude.{◌≤◌, ◌≤ℤ◌, pos};
 ghost use Rattle.shogi_eval.specs.Losses.{LosesAtMost, KindLosesAtMost};
@@ -7,8 +7,7 @@ use crate::eval::Eval;
 use crate::gain::drop_gain;
 use shogi_core::{Color, Kind, Position};
 
-/// The greater of the loss and what a drop of the kind loses under `Hand`, where the side holds
-/// one.
+/// The greater of `loss` and what a drop of the kind costs under `Hand`, if the side holds one.
 #[inline(always)]
 fn with_loss_of_kind(p: &Position, side: Color, kind: Kind, loss: u32) -> u32
     requires most { loss ≤ 100 }
@@ -23,8 +22,7 @@ fn with_loss_of_kind(p: &Position, side: Color, kind: Kind, loss: u32) -> u32
     if other > loss { other } else { loss }
 }
 
-/// The most that a drop of the side loses under `Hand`: what one of the dearest kind that it holds
-/// loses.
+/// The most points that a drop of the side costs under `Hand`: those of the dearest kind in hand.
 fn loss_of_hand(p: &Position, side: Color) -> u32
     ensures loss { LosesAtMost p.now.hands side Eval.Hand (pos result) }
     ensures most { result ≤ 100 }
@@ -38,8 +36,8 @@ fn loss_of_hand(p: &Position, side: Color) -> u32
     with_loss_of_kind(p, side, Kind::Rook, loss)
 }
 
-/// A bound, from 0 to 100 points, of what a drop takes from the material of this side: nothing under
-/// `Plain`, and under `Hand` the most that it takes of a kind that the side holds.
+/// The most points that a drop costs the side, from 0 to 100: 0 under `Plain` and `Exchange`, and
+/// under `Hand` those of the dearest kind in hand.
 #[inline(always)]
 pub fn loss_of_drops(p: &Position, side: Color, e: Eval) -> i32
     ensures loss { LosesAtMost p.now.hands side e result }

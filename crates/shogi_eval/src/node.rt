@@ -1,4 +1,4 @@
-//! A position on the way of a search.
+//! Positions with their material, as a search plays through them.
 
 ghost use Rattle.std.specs.Prelude.{◌≡◌, ◌≤ℤ◌, true, ◌-ℤ◌, pos};
 ghost use Rattle.shogi_eval.specs.declared.points.TheConstants.{POINTS_MAX};
@@ -17,8 +17,8 @@ use shogi_core::{Kind, Move, Position};
 use shogi_moves::advance;
 use std::marker::Model;
 
-/// A position with its material by an evaluation, which changes with each move that is played, seen
-/// as the position and the evaluation.
+/// A position with an evaluation and its material, which each move updates; seen as the position
+/// and the evaluation.
 #[derive(Clone, Copy, Debug)]
 pub struct Node {
     position: Position,
@@ -44,7 +44,7 @@ impl Model for Node {
 }
 
 impl Node {
-    /// The node of a position, under an evaluation.
+    /// The node of a position under an evaluation.
     pub fn of(position: Position, e: Eval) -> Node
         ensures position { result.position ≡ position }
         ensures eval { result.eval ≡ e }
@@ -57,7 +57,7 @@ impl Node {
         }
     }
 
-    /// The node of the opening position, whose sides have the same.
+    /// The node of the opening position, whose material is 0.
     #[tactic(auto, using(crate::proofs::Opening::start_even))]
     pub fn start(e: Eval) -> Node
         ensures position { result.position ≡ start }
@@ -70,14 +70,14 @@ impl Node {
         }
     }
 
-    /// The position.
+    /// A copy of the position.
     pub fn position(&self) -> Position
         ensures { result ≡ self.now.position }
     {
         self.position
     }
 
-    /// The position, where it stands.
+    /// A reference to the position.
     pub fn as_position(&self) -> &Position
         ensures { result.now ≡ self.now.position }
     {
@@ -91,7 +91,7 @@ impl Node {
         self.eval
     }
 
-    /// The node after a legal move, under the same evaluation.
+    /// A copy of the node with a legal move played, under the same evaluation.
     pub fn play(&self, m: Move) -> Node
         requires { is_legal self.now.position m ≡ true }
         ensures after { result.position ≡ after self.now.position m }
@@ -104,7 +104,7 @@ impl Node {
         next
     }
 
-    /// The node becomes that after a legal move, under the same evaluation.
+    /// Plays a legal move, under the same evaluation.
     pub fn advance(&mut self, m: Move)
         requires { is_legal self.old.position m ≡ true }
         ensures after { self.new.position ≡ after self.old.position m }
@@ -116,7 +116,7 @@ impl Node {
         advance(&mut self.position, m);
     }
 
-    /// The material after a legal move, from the side that is to move then; nothing is played.
+    /// The material after a legal move, as seen by the side to move then. The move is not played.
     #[inline(always)]
     pub fn score_after(&self, m: &Move) -> i32
         requires { is_legal self.now.position m.now ≡ true }
@@ -125,7 +125,7 @@ impl Node {
         score_after(&self.position, self.eval, self.score, m)
     }
 
-    /// The material after a legal drop of the kind, on any square, from the side that is to move then.
+    /// The material after a legal drop of the kind on any square, as seen by the side to move then.
     #[inline(always)]
     pub fn score_after_drop(&self, kind: Kind) -> i32
         ensures { IsMaterialAfterDrops self.now kind result }
@@ -135,7 +135,7 @@ impl Node {
         0 - (self.score() + drop_gain(self.eval(), kind))
     }
 
-    /// The material of the position, from the side to move (see `material`).
+    /// The material of the position for the side to move (see `material`).
     pub fn score(&self) -> i32
         ensures value { result ≡ material_of self.now.position self.now.eval }
         ensures least { (pos 0 -ℤ pos POINTS_MAX) ≤ℤ result }

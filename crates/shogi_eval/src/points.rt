@@ -1,4 +1,4 @@
-//! The values of pieces, and the material of a position.
+//! Values of pieces, and the material of a position.
 
 ghost use Rattle.std.specs.Prelude.{◌≡◌, ◌≤◌, ◌<◌, ◌*◌, ◌≤ℤ◌, ◌-ℤ◌, pos};
 ghost use Rattle.shogi_eval.specs.declared.points.TheConstants.{PIECE_VALUE_MAX, POINTS_MAX};
@@ -7,13 +7,13 @@ ghost use Rattle.shogi_eval.specs.Material.{value_of, value_in_hand, points_at, 
 use crate::eval::Eval;
 use shogi_core::{Color, KINDS, Kind, Piece, Position, Role};
 
-/// The greatest value of a piece, that of a promoted rook.
+/// The greatest value of a piece: that of a dragon.
 pub const PIECE_VALUE_MAX: u32 = 1300;
 
-/// The greatest worth of what a side has: all pieces of a set, each at its best.
+/// The most points that a side can have: all pieces of a set, each at its best.
 pub const POINTS_MAX: u32 = 25440;
 
-/// What a piece of the role is worth on the board.
+/// The points of a piece of the role on the board.
 pub fn value_of(role: Role) -> u32
     ensures value { result ≡ value_of role }
     ensures range { result ≤ PIECE_VALUE_MAX }
@@ -34,7 +34,7 @@ pub fn value_of(role: Role) -> u32
     }
 }
 
-/// What a piece of the kind is worth in hand.
+/// The points of a piece of the kind in hand.
 pub fn value_in_hand(e: Eval, kind: Kind) -> u32
     ensures value { result ≡ value_in_hand e kind }
     ensures range { result ≤ PIECE_VALUE_MAX }
@@ -53,7 +53,7 @@ pub fn value_in_hand(e: Eval, kind: Kind) -> u32
     }
 }
 
-/// What stands on a square, if it is the side's.
+/// The points in the cell, if its piece is the side's, else 0.
 fn points_at(cell: Option<Piece>, color: Color) -> u32
     ensures value { result ≡ points_at color cell }
     ensures range { result ≤ PIECE_VALUE_MAX }
@@ -70,7 +70,7 @@ fn points_at(cell: Option<Piece>, color: Color) -> u32
     }
 }
 
-/// The side's pieces on the board.
+/// The points of the side's pieces on the board.
 fn points_on_board(cells: &[Option<Piece>; 81], color: Color) -> u32
     ensures value { result ≡ points_on_board cells.now color }
     ensures range { result ≤ 81 * PIECE_VALUE_MAX }
@@ -82,7 +82,7 @@ fn points_on_board(cells: &[Option<Piece>; 81], color: Color) -> u32
     points
 }
 
-/// What the side holds of a kind.
+/// The points of the side's pieces of the kind in hand.
 fn points_of_kind(p: &Position, e: Eval, color: Color, kind: Kind) -> u32
     ensures value { result ≡ points_of_kind p.now.hands e color kind }
     ensures range { result ≤ 255 * PIECE_VALUE_MAX }
@@ -90,7 +90,7 @@ fn points_of_kind(p: &Position, e: Eval, color: Color, kind: Kind) -> u32
     p.hand(color, kind) as u32 * value_in_hand(e, kind)
 }
 
-/// The side's pieces in hand.
+/// The points of the side's pieces in hand.
 fn points_in_hand(p: &Position, e: Eval, color: Color) -> u32
     ensures value { result ≡ points_in_hand p.now.hands e color }
     ensures range { result ≤ 7 * 255 * PIECE_VALUE_MAX }
@@ -102,7 +102,7 @@ fn points_in_hand(p: &Position, e: Eval, color: Color) -> u32
     points
 }
 
-/// All that the side has.
+/// The points of all the side's pieces.
 #[tactic(auto, using(crate::proofs::Bounds::points_within), unfolding(crate::specs::Material::points_of))]
 fn points_of(p: &Position, e: Eval, color: Color) -> u32
     ensures value { result ≡ points_of p.now e color }
@@ -112,9 +112,8 @@ fn points_of(p: &Position, e: Eval, color: Color) -> u32
     points_on_board(p.board().cells(), color) + points_in_hand(p, e, color)
 }
 
-/// The material of a position, from the side to move: what it has on the board and in hand, less
-/// what the other side has, by the values of the evaluation (own choice). It lies from -25,440 to
-/// 25,440.
+/// The material of a position for the side to move: its points on the board and in hand, less the
+/// opponent's, under the evaluation (own choice). Ranges from -25,440 to 25,440.
 #[tactic(auto, unfolding(crate::specs::Material::material_of))]
 pub fn material(p: &Position, e: Eval) -> i32
     ensures value { result ≡ material_of p.now e }
