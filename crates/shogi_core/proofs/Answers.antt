@@ -1,4 +1,4 @@
--- Evasions: an attack stays unless something comes to stand on the attacker's square or on its way.
+-- Evasions: an attack stays unless the attacker's square or its way is filled.
 use Rattle.std.proofs.Common.{◌≡◌, ℕ, ◌<◌, true, false, refl, sym, ap, ◌∙◌}
 use Rattle.std.specs.Prelude.{◌&&◌, ◌||◌, ◌==◌}
 use Rattle.std.proofs.lemmas.Bool.{both_ways, and_parts, and_from, or_right, false_from_ne_true, eq-eqb}
@@ -17,14 +17,14 @@ use Rattle.shogi_core.proofs.SeenLaws.{slides_back}
 use Rattle.shogi_core.proofs.SliderAttacks.{attacked_by_step, shot_attacks}
 use Rattle.shogi_core.proofs.Discovered.{slide_stays, some_below_which}
 
--- an attack by a step or a jump stays if the mask has the attacker's square
+-- a step or jump attack stays if the mask has the attacker's square
 pub step_stays : (m : ℕ) (cells : Cells) (color : Color) (square a : ℕ) → square < 81 → a < 81 → is_step_from cells color square a ≡ true → has_bit m a ≡ true → StaysAttacked m cells color square
 step_stays m cells color square a low h e set = λ new to l out fills.
     let parts : (is_piece_of color (piece_at cells a) ≡ true) × (cell_steps (piece_at cells a) a square ≡ true) = and_parts _ _ e in
     let same : piece_at new a ≡ piece_at cells a = fills.kept a (λ at. both_ways (has_bit m to) out (ap (has_bit m) (sym at) ∙ set)) parts.0 in
     sym (attacked_by_step new color square low (some_below_at 81 (is_step_from new color square) a h (and_from _ _ (ap (is_piece_of color) same ∙ parts.0) (ap (λ cell. cell_steps cell a square) same ∙ parts.1))))
 
--- an attack by a slide stays if the mask has the open line to the attacker
+-- a sliding attack stays if the mask has the open line to the attacker
 pub shot_stays : (m : ℕ) (cells : Cells) (color : Color) (square d : ℕ) → square < 81 → d < 8 → slider_attacks_along cells color square d ≡ true → ((n : ℕ) → n < 81 → has_bit m n ≡ slides cells (direction_at d) square n) → StaysAttacked m cells color square
 unfolding slider_attacks_along
 shot_stays m cells color square d low h e line = λ new to l out fills.
@@ -45,6 +45,6 @@ unfolding in_check
 check_stays_off m cells side king h mine stays = λ new to l out fills kings.
     some_below_at 81 (is_open_king new side) king h (and_from _ _ (ap (is_king side) (kings king mine) ∙ mine) (stays new to l out fills))
 
--- a mask to which one square was added has that square
+-- a mask has the square added to it
 pub one_bit : (m a : ℕ) → ((i : ℕ) → has_bit m i ≡ (has_bit 0 i || i == a)) → has_bit m a ≡ true
 one_bit m a bits = bits a ∙ or_right (has_bit 0 a) (a == a) (eq-eqb a a refl)

@@ -67,7 +67,7 @@ away_between k m o a b e =
     let rank : pos (b % 9) +ℤ pos m *ℤ (pos 0 -ℤ o.rank) ≡ pos (a % 9) +ℤ pos k *ℤ o.rank = omega (arith, ints, at.1, times_add k m o.rank, times_back m o.rank) in
     ap (λ f. square_at f (pos (b % 9) +ℤ pos m *ℤ (pos 0 -ℤ o.rank))) file ∙ ap (square_at (pos (a / 9) +ℤ pos k *ℤ o.file)) rank
 
--- m more steps from the square k steps away lead k + m steps away
+-- k steps and m more are k + m steps
 pub away_on : (k m : ℕ) (o : Offset) (a x : ℕ) → away k o a ≡ Some x → away m o x ≡ away (k + m) o a
 unfolding away
 away_on k m o a x e =
@@ -76,7 +76,7 @@ away_on k m o a x e =
     let rank : pos (x % 9) +ℤ pos m *ℤ o.rank ≡ pos (a % 9) +ℤ pos (k + m) *ℤ o.rank = omega (arith, ints, at.1, times_add k m o.rank) in
     ap (λ f. square_at f (pos (x % 9) +ℤ pos m *ℤ o.rank)) file ∙ ap (square_at (pos (a / 9) +ℤ pos (k + m) *ℤ o.file)) rank
 
--- zero steps lead to the square itself
+-- zero steps stay on the square
 pub away_none : (o : Offset) (a : ℕ) → a < 81 → away 0 o a ≡ Some a
 unfolding away
 away_none o a h =

@@ -12,7 +12,7 @@ pub all_below_none : (test : ℕ → Bool) → all_below 0 test ≡ true
 unfolding all_below
 all_below_none test = refl
 
--- a bound raised by one adds one test
+-- a bound raised by one
 pub some_below_more : (n : ℕ) (test : ℕ → Bool) → some_below (n + 1) test ≡ (some_below n test || test n)
 unfolding some_below
 some_below_more n test = rw add-one refl
@@ -24,7 +24,7 @@ last_is n i h g = omega arith
 at_last : (test : ℕ → Bool) (b : Bool) (n i : ℕ) → i ≡ n → test i ≡ b → test n ≡ b
 at_last test b n i e h = subst (λ (k : ℕ). test k ≡ b) e h
 
--- some number below n passes if a given one does
+-- one passing number is enough
 pub some_below_at : (n : ℕ) (test : ℕ → Bool) (i : ℕ) → i < n → test i ≡ true → some_below n test ≡ true
 unfolding some_below
 some_below_at zero test i h e = absurd (omega arith)
@@ -64,6 +64,6 @@ unfolding all_below
 all_below_yes zero test h = refl
 all_below_yes (suc n) test h = and_from (all_below n test) (test n) (all_below_yes n test (λ i below. h i (omega arith))) (h n (omega arith))
 
--- a loop may answer true once a number passes
+-- a loop that finds a passing number answers true
 pub some_below_found : (n : ℕ) (test : ℕ → Bool) (i : ℕ) → i < n → test i ≡ true → true ≡ some_below n test
 some_below_found n test i h e = sym (some_below_at n test i h e)

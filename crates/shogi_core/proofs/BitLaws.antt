@@ -1,4 +1,4 @@
--- Bits of numbers as tests, and the operations of the code on them.
+-- Bits as tests, and operations on them.
 use Rattle.std.proofs.Common.{◌≡◌, ◌≢◌, ℕ, ◌+◌, ◌-◌, ◌*◌, ◌/◌, ◌%◌, ◌^◌, ◌<◌, ◌≤◌, Bool, true, false, cond, not, refl, sym, ap, ◌∙◌, arith, bit_and, bit_or, max, min, inl, inr, shr-shr}
 use Rattle.std.specs.Prelude.{zero, suc, ◌==◌, ◌&&◌, ◌||◌}
 use Rattle.std.specs.Int.{bit_at, w128}
@@ -60,7 +60,7 @@ pub has_bit-shr : (m k n : ℕ) → has_bit (m / 2 ^ k) n ≡ has_bit m (k + n)
 unfolding has_bit
 has_bit-shr m k n = ap (λ x. x % 2 == 1) (shr-shr m k n)
 
--- a tested bit as the number 0 or 1
+-- a tested bit as a number
 pub bit_from : (m n : ℕ) (b : Bool) → has_bit m n ≡ b → bit_at m n ≡ cond b 1 0
 unfolding has_bit
 bit_from m n true e = eqb-true (bit_at m n) 1 e

@@ -1,4 +1,4 @@
--- A count of passing elements is zero, at least one, or at least two.
+-- Counts of zero, at least one, or at least two.
 use Rattle.std.proofs.Common.{◌≡◌, ℕ, ◌+◌, ◌<◌, ◌≤◌, Bool, true, false, List, [], ◌∷◌, length, get_or, refl, arith}
 use Rattle.std.specs.Prelude.{zero, suc, cond, count_by}
 use Rattle.std.proofs.lemmas.List.Sums.{sum_by-cons}

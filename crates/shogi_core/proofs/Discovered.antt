@@ -1,4 +1,4 @@
--- Moves that can leave a king attacked: those from a square on an open line with it.
+-- Moves that can leave a king attacked start on an open line with it.
 use Rattle.std.proofs.Common.{◌≡◌, ℕ, ◌+◌, ◌-◌, ◌<◌, ◌≤◌, ◌⊎◌, Bool, true, false, refl, sym, ap, subst, ◌∙◌, arith, inl, inr, Option, Some, None, List, [], ◌∷◌}
 use Rattle.std.specs.Prelude.{◌&&◌, zero, suc, is_none}
 use Rattle.std.specs.List.{list_any, list_all}
@@ -37,7 +37,7 @@ one_of test p (d ∷ ds) e h = elim (or_cases _ _ e) [
   | inr later ↦ or_right (test d) _ (one_of test p ds later h)
 ]
 
--- if an offset of one list passes and each of them is in the other list, some offset there passes
+-- what passes for an offset of one list passes for one of the list that contains it
 pub list_any_among : (test : Offset → Bool) (g : Offset → Offset) (os ds : List Offset) → list_all (λ o. list_any (same_way (g o)) ds) os ≡ true → list_any (λ o. test (g o)) os ≡ true → list_any test ds ≡ true
 list_any_among test g [] ds each e = absurd (cc)
 list_any_among test g (o ∷ os) ds each e =
@@ -53,7 +53,7 @@ slides_around Black _ = refl
 slides_around White King = refl
 slides_around White _ = refl
 
--- if each offset that passes s passes t, and some offset passes s, some offset passes t
+-- a weaker test passes where a stronger one does
 pub list_any_kept : (s t : Offset → Bool) (os : List Offset) → ((o : Offset) → s o ≡ true → t o ≡ true) → list_any s os ≡ true → list_any t os ≡ true
 list_any_kept s t [] h e = e
 list_any_kept s t (o ∷ os) h e = elim (or_cases _ _ e) [
@@ -72,7 +72,7 @@ some_below_which (suc n) test e = elim (or_cases _ _ e) [
 -- ---- a slide after a move
 
 module _ (old new : Cells) (Left : ℕ → Type 0) (opened : (x : ℕ) → is_none (piece_at new x) ≡ true → (is_none (piece_at old x) ≡ true) ⊎ Left x) where
-  -- a square of the slide that is empty now was empty before, or the move left it
+  -- an empty square of the slide was empty before, or the move left it
   clear_here : (o : Offset) (a i : ℕ) → is_step_empty new o a i ≡ true → (is_step_empty old o a i ≡ true) ⊎ ((x : ℕ) × (away (i + 1) o a ≡ Some x) × Left x)
   clear_here o a i e = found (away (i + 1) o a) refl e
     where
@@ -83,7 +83,7 @@ module _ (old new : Cells) (Left : ℕ → Type 0) (opened : (x : ℕ) → is_no
         | inr left ↦ inr (x, at, left)
       ]
 
-  -- seen from the far end of the slide, the squares were empty, or one that the move left had a slide to the end before
+  -- the squares of a slide were empty, or one that the move left had a slide to the end
   behind : (o : Offset) (a n s d : ℕ) → n < 8 → away (n + 1) o a ≡ Some s → all_below n (is_step_empty new o a) ≡ true
       → ((x : ℕ) × Left x × (slides old o x s ≡ true)) ⊎ ((i : ℕ) → i < n → n ≤ i + d → is_step_empty old o a i ≡ true)
   behind o a n s zero small there clear = inr (λ i l g. absurd (omega arith))
@@ -122,7 +122,7 @@ module _ (old new : Cells) (Left : ℕ → Type 0) (opened : (x : ℕ) → is_no
         | inr clear ↦ inr (some_below_at 8 (slides_across old o a s) n which.1 (and_from _ _ parts.0 (all_below_yes n (is_step_empty old o a) (λ i l. clear i l (omega arith)))))
       ]
 
-  -- if no square that was left is on an open line with s, a slide to s existed before
+  -- if no vacated square is on an open line with s, a slide to s existed before
   has_slide_was : (piece : Piece) (a s : ℕ) → ((x : ℕ) → Left x → are_lined old x s ≡ false) → has_slide new piece a s ≡ true → has_slide old piece a s ≡ true
   unfolding are_lined
   has_slide_was piece a s free e = each (slides_of piece.role) (slides_around piece.color piece.role) e
@@ -139,7 +139,7 @@ module _ (old new : Cells) (Left : ℕ → Type 0) (opened : (x : ℕ) → is_no
             | inr later ↦ or_right (slides old (for_side piece.color o) a s) _ (each os parts.1 later)
           ]
 
-  -- a piece that reaches a square after the move would have reached it from the same square before
+  -- a piece that reaches a square now would have reached it from the same square before
   pub reach_was : (cell : Option Piece) (a s : ℕ) → ((x : ℕ) → Left x → are_lined old x s ≡ false) → cell_reaches new cell a s ≡ true → cell_reaches old cell a s ≡ true
   reach_was None a s free e = e
   reach_was (Some piece) a s free e = elim (or_cases (has_step piece a s) (has_slide new piece a s) e) [
@@ -147,7 +147,7 @@ module _ (old new : Cells) (Left : ℕ → Type 0) (opened : (x : ℕ) → is_no
     | inr slide ↦ or_right (has_step piece a s) (has_slide old piece a s) (has_slide_was piece a s free slide)
   ]
 
-  -- an unattacked square stays so, if new pieces do not reach it and no square that was left is on an open line with it
+  -- an unattacked square stays so, if new pieces do not reach it and no vacated square is on an open line with it
   pub attacked_was_but : (color : Color) (s : ℕ) → ((a : ℕ) → is_piece_of color (piece_at new a) ≡ true → (piece_at old a ≡ piece_at new a) ⊎ (reaches new a s ≡ false))
       → ((x : ℕ) → Left x → are_lined old x s ≡ false) → is_attacked old color s ≡ false → is_attacked new color s ≡ false
   unfolding reaches
@@ -172,7 +172,7 @@ module _ (old new : Cells) (Left : ℕ → Type 0) (opened : (x : ℕ) → is_no
       (attacked_was_but (opponent_of color) k (λ a own. elim (kept a own) [ inl same ↦ inl same | inr short ↦ inr (short k l parts.0) ])
       (λ x left. false_from_ne_true _ (λ lined. both_ways (is_line_to_king old color x k) (some_below_not 81 (is_line_to_king old color x) k (free x left) l) (and_from _ _ king lined))) shut) parts.1))
 
-  -- an unattacked square stays so, if no piece is new and no square that was left is on an open line with it
+  -- an unattacked square stays so, if no piece is new and no vacated square is on an open line with it
   pub attacked_was : (color : Color) (s : ℕ) → ((a : ℕ) → is_piece_of color (piece_at new a) ≡ true → piece_at old a ≡ piece_at new a)
       → ((x : ℕ) → Left x → are_lined old x s ≡ false) → is_attacked old color s ≡ false → is_attacked new color s ≡ false
   attacked_was color s kept = attacked_was_but color s (λ a own. inl (kept a own))

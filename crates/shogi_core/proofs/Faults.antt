@@ -1,4 +1,4 @@
--- The first fault of a position against the rules one by one.
+-- The first fault of a position, rule by rule.
 use Rattle.std.proofs.Common.{◌≡◌, ℕ, ◌<◌, ◌≤◌, Bool, true, false, cond, refl, sym, subst, arith, Option, Some, None, get_or}
 use Rattle.std.specs.Prelude.{count_by, nat_lt}
 use Rattle.std.specs.List.{list_any}
@@ -16,7 +16,7 @@ use Rattle.shogi_core.specs.Validity.{fault_of, count_of, has_too_many, has_two_
 use Rattle.shogi_core.proofs.Faultless.{IsFaultless}
 use Rattle.shogi_core.proofs.Below.{some_below_not, some_below_no}
 
--- a chain of tests that finds no fault failed each test
+-- a chain of tests without a fault failed each
 pub cond_none : {F : Type 0} (b : Bool) (fault : F) (rest : Option F) → cond b (Some fault) rest ≡ None → (b ≡ false) × (rest ≡ None)
 cond_none false fault rest e = (refl, e)
 cond_none true fault rest e = cc

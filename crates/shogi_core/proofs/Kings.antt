@@ -1,4 +1,4 @@
--- In a valid position a side has one king or none.
+-- A valid position has at most one king a side.
 use Rattle.std.proofs.Common.{◌≡◌, ℕ, ◌<◌, ◌≤◌, Bool, true, false, None, not, refl, sym, ap, ◌∙◌, inl, inr, arith, length}
 use Rattle.std.specs.Prelude.{◌==◌, ◌&&◌, count_by}
 use Rattle.std.proofs.lemmas.Bool.{ne_eqb, both_ways, cases_lt, false_from_ne_true}
@@ -12,7 +12,7 @@ use Rattle.shogi_core.proofs.BitLaws.{has_bit-none}
 use Rattle.shogi_core.proofs.Counting.{two_counted}
 use Rattle.shogi_core.proofs.Faults.{faultless_from}
 
--- a mask of kings that is empty without one square leaves no other king
+-- removing the only king of the mask leaves no other
 pub lone_king : (cells : Cells) (side : Color) (kings rest from : ℕ) → ((n : ℕ) → n < 81 → has_bit kings n ≡ is_king side (piece_at cells n)) → ((i : ℕ) → has_bit rest i ≡ (has_bit kings i && not (i == from))) → rest ≡ 0 → HasNoOtherKing cells side from
 lone_king cells side kings rest from b r none x h other =
     sym (b x h) ∙ go (has_bit kings x) (x == from) (ne_eqb x from other) (sym (r x) ∙ (ap (λ m. has_bit m x) none ∙ has_bit-none x))
@@ -31,7 +31,7 @@ only_king p side k v low king x below other = false_from_ne_true (is_king side (
       | inr after ↦ (let two : 2 ≤ count_by (is_king side) p.cells = two_counted (is_king side) p.cells k x None (omega arith) (omega arith) king crown in omega arith)
     ]))
 
--- in a valid position a king found in the mask is the only one of its side
+-- in a valid position a king of the mask is the side's only one
 pub king_lone : (p : Shogi) (side : Color) (kings k : ℕ) → IsValid p → k < 81 → ((n : ℕ) → n < 81 → has_bit kings n ≡ is_king side (piece_at p.cells n)) → has_bit kings k ≡ true → HasNoOtherKing p.cells side k
 king_lone p side kings k v low bits set = only_king p side k v low (sym (bits k low) ∙ set)
 

@@ -125,7 +125,7 @@ direction_falls (suc (suc (suc (suc (suc (suc (suc zero))))))) g h = omega (arit
 direction_falls (suc (suc (suc (suc (suc (suc (suc (suc d)))))))) g h = absurd (omega arith)
 
 module _ (cells : Cells) (o : Offset) (a occ : ℕ) (occupied : (n : ℕ) → n < 81 → has_bit occ n ≡ not (is_none (piece_at cells n))) where
-  -- a piece on the line has its bit in the mask
+  -- a piece on the line has its bit
   pub bit_there : (x : ℕ) → is_on_ray o a x ≡ true → is_none (piece_at cells x) ≡ false → has_bit (bit_and (ray_of o a) occ) x ≡ true
   bit_there x on taken =
       let low : x < 81 = on_board o a x on in

@@ -17,7 +17,7 @@ pub mask_none : (test : ℕ → Bool) → mask_below 0 test ≡ 0
 unfolding mask_below
 mask_none test = refl
 
--- setting bit n extends the mask by a passing square
+-- one more passing square
 pub mask_on : (n : ℕ) (test : ℕ → Bool) → n < 128 → test n ≡ true → bit_or (mask_below n test) (1 * 2 ^ n % 2 ^ 128) ≡ mask_below (n + 1) test
 unfolding mask_below
 mask_on n test h e =
@@ -32,7 +32,7 @@ module _ (test : Option Piece → Bool) where
   unfolding places_of
   places_fit cells = mask_fits 81 (passes test cells)
 
-  -- bit n is set if and only if the cell of square n passes the test
+  -- bit n is set if and only if square n passes
   pub has_bit-places : (cells : Cells) (n : ℕ) → n < 81 → has_bit (places_of test cells) n ≡ test (piece_at cells n)
   unfolding places_of
   has_bit-places cells n h = has_bit-mask 81 (passes test cells) n h

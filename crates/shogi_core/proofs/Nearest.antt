@@ -36,7 +36,7 @@ one_piece cells o s a b e f p q =
     ]
 
 module _ (cells : Cells) (d a line occ : ℕ) (range : d < 8) (there : line ≡ ray_of (direction_at d) a) (occupied : (n : ℕ) → n < 81 → has_bit occ n ≡ not (is_none (piece_at cells n))) where
-  -- a line without a bit of the occupied squares is open
+  -- a line without occupied squares is open
   pub no_piece : bit_and line occ ≡ 0 → (n : ℕ) → slides cells (direction_at d) a n ≡ true → is_none (piece_at cells n) ≡ true
   no_piece none n e = true_from_ne_false (is_none (piece_at cells n)) (λ taken. both_ways (has_bit (bit_and (ray_of (direction_at d) a) occ) n)
       (ap (λ (m : ℕ). has_bit (bit_and m occ) n) (sym there) ∙ (ap (λ (m : ℕ). has_bit m n) none ∙ has_bit-none n))

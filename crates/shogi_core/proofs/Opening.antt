@@ -18,7 +18,7 @@ pub start_fine : fault_of start ≡ None
 unfolding fault_of some_below all_below reaches away in_check
 start_fine = refl
 
--- the opening masks are those of its cells
+-- the opening masks are right
 pub start_black : START_BLACK ≡ own_of start_cells Black
 unfolding places_of mask_below
 start_black = refl
@@ -35,7 +35,7 @@ pub start_sliders : START_SLIDERS ≡ sliders_of start_cells
 unfolding places_of mask_below
 start_sliders = refl
 
--- the opening words are those of its cells
+-- the opening words are right
 pub start_words : START_WORDS ≡ board_words start_cells
 unfolding number_in_base_32
 start_words = refl

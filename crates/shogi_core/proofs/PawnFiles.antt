@@ -51,7 +51,7 @@ pawn_own : (side : Color) (cell : Option Piece) → is_pawn side cell ≡ true �
 pawn_own side None e = e
 pawn_own side (Some piece) e = (and_parts (is_same_color side piece.color) (is_pawn_role piece.role) e).0
 
--- an unpromoted pawn is neither a slider nor a king
+-- a pawn is neither slider nor king
 pawn_steps : (side : Color) (cell : Option Piece) → is_pawn side cell ≡ true → (is_slider cell ≡ false) × (is_king side cell ≡ false)
 pawn_steps side None e = absurd (cc)
 pawn_steps side (Some piece) e = go (is_same_color side piece.color) piece.role (and_parts (is_same_color side piece.color) (is_pawn_role piece.role) e).1
@@ -61,7 +61,7 @@ pawn_steps side (Some piece) e = go (is_same_color side piece.color) piece.role 
     go false roles.Pawn h = (refl, refl)
     go mine _ h = absurd (cc)
 
--- an unpromoted pawn's square is among the squares that are looked at
+-- a pawn's square is looked at
 stepper : (cells : Cells) (side : Color) (own sliders kings n : ℕ) → bit_or sliders kings < 2 ^ 128 → n < 81 → has_bit own n ≡ is_piece_of side (piece_at cells n) → has_bit sliders n ≡ is_slider (piece_at cells n) → has_bit kings n ≡ is_king side (piece_at cells n)
     → is_pawn side (piece_at cells n) ≡ true → has_bit (bit_and own (2 ^ 128 - 1 - bit_or sliders kings)) n ≡ true
 stepper cells side own sliders kings n fits h owns slides crowns e =

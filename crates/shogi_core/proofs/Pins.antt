@@ -91,18 +91,18 @@ module _ (cells : Cells) (side : Color) (square d snipers : ℕ) (shots : (b : �
     pin_beyond : (n a : ℕ) → is_pinned_by cells side square (direction_at d) n a ≡ true → slides cells (direction_at d) f a ≡ true
     pin_beyond n a pin = ap (λ (k : ℕ). slides cells (direction_at d) k a) (sym (pinned_first n a pin)) ∙ pin_far cells side square d n a pin
 
-    -- nothing is pinned if no piece stands beyond the first
+    -- nothing is pinned without a second piece
     pub none_beyond : ((n : ℕ) → slides cells (direction_at d) f n ≡ true → is_none (piece_at cells n) ≡ true) → (found n a : ℕ) → is_pinned_by cells side square (direction_at d) n a ≡ true → has_bit found n ≡ true
     none_beyond free found n a pin = absurd (both_ways (is_none (piece_at cells a)) (pin_there cells side square d n a pin) (free a (pin_beyond n a pin)))
 
-    -- nothing is pinned if the second piece is no sniper
+    -- nothing is pinned before a piece that is no sniper
     pub no_sniper_next : (s : ℕ) → slides cells (direction_at d) f s ≡ true → is_none (piece_at cells s) ≡ false → has_bit snipers s ≡ false
         → (found n a : ℕ) → a < 81 → is_pinned_by cells side square (direction_at d) n a ≡ true → has_bit found n ≡ true
     no_sniper_next s further there clear found n a h pin =
         let same : a ≡ s = one_piece cells (direction_at d) f a s (pin_beyond n a pin) further (pin_there cells side square d n a pin) there in
         absurd (both_ways (has_bit snipers s) clear (ap (has_bit snipers) (sym same) ∙ (shots a h ∙ pin_sniper cells side square d n a pin)))
 
-    -- the mask with the first piece added has all that is pinned in the direction
+    -- adding the first piece covers the pins of the direction
     pub first_marked : (old new : ℕ) → ((i : ℕ) → has_bit new i ≡ (has_bit old i || i == f)) → (n a : ℕ) → is_pinned_by cells side square (direction_at d) n a ≡ true → has_bit new n ≡ true
     first_marked old new bits n a pin = bits n ∙ or_right (has_bit old n) (n == f) (eq-eqb n f (pinned_first n a pin))
 
@@ -176,7 +176,7 @@ module _ (cells : Cells) (side : Color) (n : ℕ) (inside : n < length cells) (l
   opened : (x : ℕ) → is_none (piece_at (set cells n None) x) ≡ true → (is_none (piece_at cells x) ≡ true) ⊎ (x ≡ n)
   opened x e = elim (cases_eq x n) [ inl here ↦ inr here | inr other ↦ inl (ap is_none (sym (get_or-set_other cells n x None None other)) ∙ e) ]
 
-  -- lifting a piece off adds no other: what stands on a square stood there before
+  -- lifting a piece off moves no other
   there : (test : Option Piece → Bool) → test None ≡ false → (x : ℕ) → test (piece_at (set cells n None) x) ≡ true → piece_at (set cells n None) x ≡ piece_at cells x
   there test none x e = elim (cases_eq x n) [
     | inl here ↦ absurd (both_ways (test None) none (ap test (sym (lifted_at x here)) ∙ e))

@@ -60,7 +60,7 @@ nearer_down o a x y m n down ex ey low = elim (cases_lt n m) [
       omega (arith, ints, to_x.0, to_x.1, to_y.0, to_y.1))
 ]
 
--- a square that is empty on a board is empty on the empty board
+-- a square empty on some board is empty on the empty board
 clear_of : (cells : Cells) (o : Offset) (a i : ℕ) → is_step_empty cells o a i ≡ true → is_step_empty [] o a i ≡ true
 clear_of cells o a i e = go (away (i + 1) o a) e
   where
@@ -81,7 +81,7 @@ module _ (cells : Cells) (o : Offset) (a : ℕ) where
       go None at e = absurd (cc)
       go (Some x) at e = (x, at, some_below_at 8 (slides_across [] o a x) i (omega arith) (and_from _ _ (is_leads _ x at) (prefix n i (is_step_empty [] o a) clear (omega arith))))
 
-  -- a slide over the empty board is one on this board, if the squares on the way are empty here
+  -- a slide over the empty board exists here, if the squares on its way are empty
   slides_over : (b n : ℕ) → n < 8 → slides_across [] o a b n ≡ true → ((i : ℕ) → i < n → is_step_empty cells o a i ≡ true) → slides cells o a b ≡ true
   slides_over b n h past clear =
       let parts : (leads (n + 1) o a b ≡ true) × (all_below n (is_step_empty [] o a) ≡ true) = and_parts _ _ past in

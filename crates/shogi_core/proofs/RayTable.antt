@@ -1,4 +1,4 @@
--- The table of lines has the squares that steps in each direction reach.
+-- The table of lines has the squares in each direction.
 use Rattle.std.proofs.Common.{◌≡◌, ℕ, ◌+◌, ◌*◌, ◌/◌, ◌%◌, ◌^◌, ◌<◌, refl, ◌∙◌, arith, get_or, map}
 use Rattle.std.specs.List.{range_with_len}
 use Rattle.shogi_core.specs.Below.{all_below}

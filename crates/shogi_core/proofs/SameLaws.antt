@@ -15,7 +15,7 @@ use Rattle.shogi_core.specs.declared.piece.Piece.{Piece}
 use Rattle.shogi_core.specs.declared.piece.Role.{Role}
 use Rattle.shogi_core.specs.declared.piece.Role.TheVariants as role
 
--- a conjunction of two tests decides the conjunction of their facts
+-- tests joined by `&&` decide both facts
 pub both_decide : (a b : Bool) (P Q R : Type 0) → Decides a P → Decides b Q → (P → Q → R) → (R → P × Q) → Decides (a && b) R
 both_decide true true P Q R p q join split = ((λ _. join (p.0 refl) (q.0 refl)), (λ _. refl))
 both_decide true false P Q R p q join split = ((λ e. cc), (λ r. q.1 (split r).1))
@@ -71,7 +71,7 @@ pub position_same : (a b : Shogi) → Decides (is_same_position a b) (a ≡ b)
 unfolding is_same_position
 position_same a b = parts_decide a b _ _ _ (slice_eq-Decides cell_same a.cells b.cells _ refl) (slice_eq-Decides Decides-eqb a.hands b.hands _ refl) (color_same a.side b.side)
 
--- a test of values gives a test of optional values
+-- testing values tests optional values
 pub option_same : {T : Type 0} {E : T → T → Bool} → ((a b : T) → Decides (E a b) (a ≡ b)) → (a b : Option T) → Decides (option_eq E a b) (a ≡ b)
 option_same same None None = ((λ _. refl), (λ _. refl))
 option_same same None (Some b) = ((λ e. cc), (λ e. cc))

@@ -1,4 +1,4 @@
--- A piece that attacks a square stands where that square's queen-and-knight view looks.
+-- An attacker stands in the queen-and-knight view of the attacked square.
 use Rattle.std.proofs.Common.{◌≡◌, ◌⊎◌, ℕ, pos, negsuc, ◌-◌, ◌*◌, ◌%◌, ◌^◌, ◌<◌, Bool, true, false, not, refl, sym, ap, ◌∙◌, arith, inl, inr, Option, Some, None, bit_and, bit_or, List, [], ◌∷◌, ◌++◌}
 use Rattle.std.specs.Prelude.{◌==◌, ◌&&◌, ◌||◌}
 use Rattle.std.specs.List.{list_any, list_all}
@@ -138,7 +138,7 @@ slides_role PromotedSilver test e = absurd (cc)
 slides_role Horse test e = refl
 slides_role Dragon test e = refl
 
--- an attacker of b on a is near b, or is a slider on an open line with b
+-- an attacker on a is near b, or a slider on an open line with b
 cell_near : (cells : Cells) (cell : Option Piece) (a b : ℕ) → a < 81 → cell_reaches cells cell a b ≡ true → (is_near b a ≡ true) ⊎ ((is_slider cell ≡ true) × (are_lined cells b a ≡ true))
 cell_near cells None a b h e = absurd (cc)
 cell_near cells (Some piece) a b h e = elim (or_cases (has_step piece a b) (has_slide cells piece a b) e) [
@@ -155,7 +155,7 @@ pub lined_aligned : (cells : Cells) (a b : ℕ) → are_lined cells a b ≡ true
 unfolding are_lined
 lined_aligned cells a b e = list_any_kept (λ o. slides cells o a b) (λ o. slides [] o a b) around (λ o f. slides_bare cells o a b f) e
 
--- an attacker of b on a is in the view of b
+-- an attacker of b is in its view
 pub cell_seen : (cells : Cells) (cell : Option Piece) (a b : ℕ) → a < 81 → cell_reaches cells cell a b ≡ true → is_seen cells b a ≡ true
 unfolding is_seen
 cell_seen cells None a b h e = absurd (cc)

@@ -14,15 +14,15 @@ pub record Sifts (post : ℕ → Bool → Type 0) (squares left kept : ℕ) : Ty
   pub still : (n : ℕ) → n < 81 → has_bit left n ≡ true → (has_bit kept n ≡ true) × (has_bit squares n ≡ true)
   pub tried : (n : ℕ) → n < 81 → has_bit squares n ≡ true → has_bit left n ≡ false → (passes : Bool) × post n passes × (has_bit kept n ≡ passes)
 
--- a square left after one is taken out was left before
+-- a square left after a removal was left before
 pub still_left : (left next k n : ℕ) → ((i : ℕ) → has_bit next i ≡ (has_bit left i && not (i == k))) → has_bit next n ≡ true → has_bit left n ≡ true
 still_left left next k n bits e = (and_parts (has_bit left n) (not (n == k)) (sym (bits n) ∙ e)).0
 
--- a square not left after another is taken out was not left before
+-- a square not left after the removal of another was not left before
 gone_before : (left next k n : ℕ) → ((i : ℕ) → has_bit next i ≡ (has_bit left i && not (i == k))) → n ≢ k → has_bit next n ≡ false → has_bit left n ≡ false
 gone_before left next k n bits other out = false_from_ne_true (has_bit left n) (λ still. both_ways (has_bit next n) out (bits n ∙ and_from _ _ still (ap not (ne_eqb n k other))))
 
--- before the first test, all squares are left
+-- at first all squares are left
 pub sifts_first : (post : ℕ → Bool → Type 0) (m : ℕ) → Sifts post m m m
 sifts_first post m = record {
   out = λ n h e. e;
@@ -58,7 +58,7 @@ sifts_failed post m left next kept fewer k s p bits fewer_bits = record {
   ];
 }
 
--- all squares tried so far failed, the last one included
+-- all squares tried so far failed
 pub failed_more : (post : ℕ → Bool → Type 0) (m left next k : ℕ) → ((n : ℕ) → n < 81 → has_bit m n ≡ true → has_bit left n ≡ false → post n false) → post k false → ((i : ℕ) → has_bit next i ≡ (has_bit left i && not (i == k)))
     → (n : ℕ) → n < 81 → has_bit m n ≡ true → has_bit next n ≡ false → post n false
 failed_more post m left next k none p bits n h set out = elim (cases_eq n k) [

@@ -36,7 +36,7 @@ direction_around (suc (suc (suc (suc (suc (suc zero)))))) h = refl
 direction_around (suc (suc (suc (suc (suc (suc (suc zero))))))) h = refl
 direction_around (suc (suc (suc (suc (suc (suc (suc (suc d)))))))) h = absurd (omega arith)
 
--- each offset of length one is a direction with a number
+-- each direction has a number
 pub direction_of : (p : Offset) → list_any (same_way p) around ≡ true → (d : ℕ) × (d < 8) × (same_way p (direction_at d) ≡ true)
 direction_of p e = elim (or_cases (same_way p up) _ e) [
   | inl here ↦ (4, omega arith, here)
@@ -134,7 +134,7 @@ back_straight color d h = back_straight_at color d h
 
 pub ruleset backing = (back_forward_black, back_forward_white, back_diagonal, back_straight)
 
--- a square with a piece of a side is not empty
+-- a square with a piece is not empty
 pub some_of : (color : Color) (cell : Option Piece) → is_piece_of color cell ≡ true → is_none cell ≡ false
 some_of color None e = absurd (cc)
 some_of color (Some piece) e = refl
@@ -265,7 +265,7 @@ module _ (cells : Cells) (color : Color) (square : ℕ) (low : square < 81) wher
         both_ways (is_none (piece_at cells a)) (some_of color (piece_at cells a) ((and_parts _ _ outer.0).0)) (free a outer.1)))))
 
     module _ (d f : ℕ) (range : d < 8) (inside : f < 81) (line : slides cells (direction_at d) square f ≡ true) (piece : is_none (piece_at cells f) ≡ false) where
-      -- only the first piece in a direction can attack by a slide
+      -- only the first piece in a direction attacks by a slide
       first_alone : (a : ℕ) → slider_attacks_from cells color square (direction_at d) a ≡ true → a ≡ f
       first_alone a e =
           let outer = and_parts _ _ e in

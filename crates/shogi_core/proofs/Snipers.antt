@@ -58,7 +58,7 @@ pub ruleset sniping = (snipes_first, snipes_last)
 -- ---- one square is left
 
 module _ (old new : Cells) (n : ℕ) (opened : (x : ℕ) → is_none (piece_at new x) ≡ true → (is_none (piece_at old x) ≡ true) ⊎ (x ≡ n)) where
-  -- a slide existed before, or starts on an open line with the square that was left
+  -- a slide existed before, or starts on an open line with the vacated square
   slide_kept : (piece : Piece) (a b : ℕ) → a < 81 → b < 81 → has_slide new piece a b ≡ true → (are_lined old n a ≡ true) ⊎ (has_slide old piece a b ≡ true)
   unfolding are_lined
   slide_kept piece a b h l e = split (slides_of piece.role) (slides_back_around piece.color piece.role) e

@@ -16,11 +16,11 @@ use Rattle.shogi_core.proofs.TableBits.{entry_at, mask_is, bit_of, has_bit-of, s
 abbrev color_at : ℕ → Color
 color_at n = cond (n == 0) Black White
 
--- the mask of the squares that the steps reach
+-- the mask of the squares in reach
 unfoldable pub steps_mask : Color → List Offset → ℕ → ℕ
 steps_mask color os a = mask_below 81 (is_step color os a)
 
--- the bits of the squares that the steps reach
+-- the bits of the squares in reach
 abbrev step_bits : Color → List Offset → ℕ → ℕ
 step_bits color os a = some_bits (λ o. bit_of (away 1 (for_side color o) a)) os
 

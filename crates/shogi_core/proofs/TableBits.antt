@@ -14,11 +14,11 @@ use Rattle.shogi_core.specs.Bits.{has_bit, mask_below}
 use Rattle.shogi_core.specs.Movement.{away, is_same_square, is_step_empty, slides_across}
 use Rattle.shogi_core.proofs.BitLaws.{has_bit-or, has_bit-none, has_bit-one, has_bit-mask, mask_fits, same_mask}
 
--- the entry at i of a table that lists f of each index
+-- the entry at i of a table of f
 pub entry_at : (table : List ℕ) (f : ℕ → ℕ) (n i : ℕ) → table ≡ map f (range_with_len 0 n) → i < n → get_or table i 0 ≡ f i
 entry_at table f n i e h = ap (λ xs. get_or xs i 0) e ∙ get_or-map-range_with_len f 0 n i i 0 h (omega arith)
 
--- if a test tells the bits of a number, its lower 81 are the mask of the test
+-- the lower 81 bits of a number, told by a test, are the test's mask
 pub mask_is : (m : ℕ) (test : ℕ → Bool) → ((b : ℕ) → has_bit m b ≡ test b) → m % 2 ^ 81 ≡ mask_below 81 test
 unfolding has_bit
 mask_is m test bits = same_mask 81 (m % 2 ^ 81) (mask_below 81 test) (mod-lt m (pow_pos 81)) (mask_fits 81 test) (λ b h.

@@ -77,7 +77,7 @@ mixed false false true false = refl
 mixed false false false true = refl
 mixed false false false false = refl
 
--- the slides down and up and those a quarter turn on are the slides along files and ranks
+-- slides down, up and a quarter turn on are those along files and ranks
 pub straight_second : (cells : Cells) (color : Color) (first from n a b c d : ℕ) → first ≡ 0 → has_bit a n ≡ slides cells (direction_at ((first + 4) % 8)) from n → has_bit b n ≡ slides cells (direction_at first) from n → has_bit c n ≡ slides cells (direction_at ((first + 2) % 8)) from n → has_bit d n ≡ slides cells (direction_at (((first + 2) % 8 + 4) % 8)) from n
     → has_bit (bit_or (bit_or (bit_or a b) c) d) n ≡ list_any (λ o. slides cells (for_side color o) from n) straight
 straight_second cells color first from n a b c d zero e f g h = straight_bits cells color from n a b c d (rw zero at e) (rw zero at f) (rw zero at g) (rw zero at h)

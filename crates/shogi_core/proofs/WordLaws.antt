@@ -16,7 +16,7 @@ use Rattle.shogi_core.specs.Movement.{Cells, piece_at}
 use Rattle.shogi_core.specs.Same.{role_number}
 use Rattle.shogi_core.specs.Words.{board_words, cell_number, cells_word, number_in_base_32, piece_number}
 
--- each number in the list is below 32
+-- each number is below 32
 abbrev pub AreDigits : List ℕ → Type 0
 AreDigits [] = Unit {0}
 AreDigits (d ∷ ds) = (d < 32) × AreDigits ds
@@ -33,7 +33,7 @@ cell_fits (Some piece) = go piece.color
     go Black = omega (arith, role_fits piece.role)
     go White = omega (arith, role_fits piece.role)
 
--- n digits make a number below 32 to the power n
+-- n digits are below 32 to the n
 number_fits : (ds : List ℕ) → AreDigits ds → number_in_base_32 ds < 32 ^ length ds
 unfolding number_in_base_32
 number_fits [] fits = omega arith
@@ -45,7 +45,7 @@ pub cells_are_digits : (cells : Cells) → AreDigits (map cell_number cells)
 cells_are_digits [] = tt
 cells_are_digits (cell ∷ cells) = (cell_fits cell, cells_are_digits cells)
 
--- the cells of a word make a number below the power of their count
+-- a word is below 32 to the number of its cells
 word_below : (cells : Cells) (most : ℕ) → length cells ≤ most → number_in_base_32 (map cell_number cells) < 32 ^ most
 word_below cells most few =
     let fits = number_fits (map cell_number cells) (cells_are_digits cells) in
@@ -58,13 +58,13 @@ pub word_start : (cells : Cells) → 0 ≡ number_in_base_32 (map cell_number (d
 unfolding number_in_base_32
 word_start cells = rw (drop-length cells) refl
 
--- the word of one more cell at the low end
+-- a word with one more cell in front
 pub word_step : (cells : Cells) (at word number : ℕ) → at < length cells → word ≡ number_in_base_32 (map cell_number (drop (at + 1) cells))
     → number ≡ cell_number (get_or cells at None) → 32 * word + number ≡ number_in_base_32 (map cell_number (drop at cells))
 unfolding number_in_base_32
 word_step cells at word number below rest is = rw (drop_more cells at None below, rest, is) (omega arith)
 
--- a word of at most twelve cells has room for the next
+-- a word has room for the next cell
 pub word_room : (cells : Cells) (at word number : ℕ) → 0 < at → at ≤ length cells → length cells ≤ 12 → number < 32
     → word ≡ number_in_base_32 (map cell_number (drop at cells)) → 32 * word + number < 2 ^ 64
 word_room cells at word number some below few digit is =
@@ -81,7 +81,7 @@ number_set (e ∷ ds) (suc k) d below =
     let rest = number_set ds k d (omega arith) in
     rw (pow-suc 32 k) (omega (arith, rest))
 
--- a digit times its power is at most the number
+-- a digit is contained in its number
 number_has : (ds : List ℕ) (k : ℕ) → k < length ds → slice_index ds k * 32 ^ k ≤ number_in_base_32 ds
 unfolding number_in_base_32
 number_has [] k below = absurd (omega arith)
@@ -105,11 +105,11 @@ out_whole word place out fits there = rw (pow_32 place) (omega (arith, fits, the
 pub put_whole : (place put : ℕ) → place < 12 → put < 32 → put * 2 ^ (5 * place) % 2 ^ 64 ≡ put * 32 ^ place
 put_whole place put few digit = shl_whole put 5 (5 * place) 64 digit (omega arith) ∙ ap (λ n. put * n) (pow_32 place)
 
--- a shifted digit is below 32 to the power 12
+-- a shifted digit is below 32 to the 12
 pub put_fits : (place put : ℕ) → place < 12 → put < 32 → put * 32 ^ place < 32 ^ 12
 put_fits place put few digit = rw (← pow_32 place) (omega (arith, shl_below put 5 (5 * place) digit, pow_mono {i = 5 + 5 * place} {j = 60} (omega arith)))
 
--- the digit of a square in its part of the board
+-- the digit of a square in its part
 part_at : (cells : Cells) (from to s k : ℕ) → s ≡ from + k → s < to → to ≤ length cells → slice_index (map cell_number (slice_range cells from to)) k ≡ cell_number (piece_at cells s)
 part_at cells from to s k is below fits =
     get_or-map cell_number (slice_range cells from to) k None
@@ -118,13 +118,13 @@ part_at cells from to s k is below fits =
 part_length : (cells : Cells) (from to : ℕ) → from ≤ to → to ≤ length cells → length (map cell_number (slice_range cells from to)) ≡ to - from
 part_length cells from to order fits = length-map (slice_range cells from to) cell_number ∙ length-take-le (to - from) (drop from cells) (omega (arith, length-drop from cells))
 
--- a square's digit times its power is at most the word of its part
+-- a square's digit is contained in the word of its part
 part_has : (cells : Cells) (from to s k : ℕ) → s ≡ from + k → s < to → to ≤ length cells → cell_number (piece_at cells s) * 32 ^ k ≤ cells_word cells from to
 part_has cells from to s k is below fits =
     let len = part_length cells from to (omega arith) fits in
     rw (part_at cells from to s k is below fits) at (number_has (map cell_number (slice_range cells from to)) k (omega (arith, len)))
 
--- the word of a part after one of its cells is written
+-- a part's word after a write in it
 part_set : (cells : Cells) (from to s k : ℕ) (piece : Option Piece) → s ≡ from + k → s < to
     → map cell_number (slice_range (set cells s piece) from to) ≡ set (map cell_number (slice_range cells from to)) k (cell_number piece)
 part_set cells from to s k piece is below =
@@ -147,7 +147,7 @@ part_before cells from to s piece order past =
     let dropped : drop from (set cells s piece) ≡ set (drop from cells) (s - from) piece = ap (λ n. drop from (set cells n piece)) is ∙ drop-set-add from cells (s - from) piece in
     rw (dropped, take-set-le (to - from) (drop from cells) (s - from) piece (omega arith)) refl
 
--- the word of a part with at most twelve cells is below 32 to the power 12
+-- the word of a part is below 32 to the 12
 part_fits : (cells : Cells) (from to : ℕ) → from ≤ to → to ≤ length cells → to ≤ from + 12 → cells_word cells from to < 32 ^ 12
 part_fits cells from to order fits few =
     word_below (slice_range cells from to) 12 (omega (arith, length-take-le (to - from) (drop from cells) (omega (arith, length-drop from cells))))
@@ -163,7 +163,7 @@ module _ (cells : Cells) (s : ℕ) (len : length cells ≡ 81) (low : s < 81) wh
   fits_at (suc (suc (suc (suc (suc (suc zero)))))) = part_fits cells 72 81 (omega arith) (omega arith) (omega arith)
   fits_at (suc (suc (suc (suc (suc (suc (suc j))))))) = omega arith
 
-  -- each word of a board is below 32 to the power 12
+  -- each word is below 32 to the 12
   pub words_fit : slice_index (board_words cells) (s / 12) < 32 ^ 12
   words_fit = fits_at (s / 12)
 
@@ -177,7 +177,7 @@ module _ (cells : Cells) (s : ℕ) (len : length cells ≡ 81) (low : s < 81) wh
   has_at (suc (suc (suc (suc (suc (suc zero)))))) e = part_has cells 72 81 s (s % 12) (omega arith) (omega arith) (omega arith)
   has_at (suc (suc (suc (suc (suc (suc (suc j))))))) e = absurd (omega arith)
 
-  -- a square's digit times its power is at most its word
+  -- a square's digit is contained in its word
   pub words_have : cell_number (piece_at cells s) * 32 ^ (s % 12) ≤ slice_index (board_words cells) (s / 12)
   words_have = has_at (s / 12) refl
 
@@ -224,6 +224,6 @@ module _ (cells : Cells) (s : ℕ) (piece : Option Piece) (word : ℕ) (len : le
       (before 48 60 (omega arith) (omega arith)) (before 60 72 (omega arith) (omega arith)) (new 72 81 (omega arith) (omega arith) (omega arith) h)
   put_at (suc (suc (suc (suc (suc (suc (suc j))))))) e h = absurd (omega arith)
 
-  -- the words with one changed are those of the cells after the write
+  -- the words with one changed match the cells after the write
   pub words_put : Exchanged (slice_index (board_words cells) (s / 12)) → set (board_words cells) (s / 12) word ≡ board_words (set cells s piece)
   words_put = put_at (s / 12) refl

@@ -55,7 +55,7 @@ right_alone a b c p q = rw (p, q) refl
 none_of : (a b : Bool) → a ≡ false → false ≡ (a && b)
 none_of a b p = rw p refl
 
--- the three cases of a promotion: the role has none, the move starts in the zone, or it ends in the zone
+-- no promotion; a promotion from the zone; a promotion into the zone
 pub promotes_never : (role : Role) (color : Color) (from n : ℕ) → n < 81 → is_promotable role ≡ false → has_bit 0 n ≡ (is_promotable role && (in_promotion_zone color from || in_promotion_zone color n))
 promotes_never role color from n h e = has_bit-none n ∙ none_of (is_promotable role) (in_promotion_zone color from || in_promotion_zone color n) e
 

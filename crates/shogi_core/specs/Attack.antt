@@ -49,7 +49,7 @@ is_sniper_of_king cells color from square =
 unfoldable pub is_sniping : Cells → Color → ℕ → Bool
 is_sniping cells color from = some_below 81 (is_sniper_of_king cells color from)
 
--- a step or a jump leads what stands in the cell from `from` to `to`
+-- a step or jump leads what stands in the cell from `from` to `to`
 abbrev pub cell_steps : Option Piece → ℕ → ℕ → Bool
 cell_steps None from to = false
 cell_steps (Some piece) from to = has_step piece from to
@@ -60,7 +60,7 @@ cell_slides_back o None = false
 cell_slides_back o (Some piece) =
     list_any (λ p. is_same_offset (back (for_side piece.color p)) o) (slides_of piece.role)
 
--- the piece on `from` is of the side and attacks the square by a step or a jump
+-- the piece on `from` is of the side and attacks the square by step or jump
 abbrev pub is_step_from : Cells → Color → ℕ → ℕ → Bool
 is_step_from cells color square from =
     is_piece_of color (piece_at cells from) && cell_steps (piece_at cells from) from square
@@ -80,12 +80,12 @@ slider_attacks_along cells color square direction =
 abbrev pub slider_attacks : Cells → Color → ℕ → Bool
 slider_attacks cells color square = some_below 8 (slider_attacks_along cells color square)
 
--- the piece on `from`, a square of the mask `among`, attacks the square by a step or a jump
+-- the piece on `from`, a square of `among`, attacks the square by step or jump
 abbrev pub is_step_among : Cells → ℕ → ℕ → ℕ → Bool
 is_step_among cells among square from =
     has_bit among from && cell_steps (piece_at cells from) from square
 
--- no piece on a square of the mask `among` attacks the square by a step or a jump
+-- no piece on a square of `among` attacks the square by step or jump
 abbrev pub HasNoStep : Cells → ℕ → ℕ → Type 0
 HasNoStep cells among square = some_below 81 (is_step_among cells among square) ≡ false
 
@@ -93,29 +93,29 @@ HasNoStep cells among square = some_below 81 (is_step_among cells among square) 
 abbrev pub AreOccupied : ℕ → Cells → Type 0
 AreOccupied mask cells = HasBits mask (λ n. not (is_none (piece_at cells n)))
 
--- on the board `seen`, the side has exactly the pieces on the mask `among`, as they stand in `cells`, and the mask `occupied` has the squares that are not empty
+-- on `seen`, the side's pieces are those on the squares `among`, as in `cells`, and `occupied` are the squares that are not empty
 pub record IsSeenAs (cells : Cells) (among occupied : ℕ) (color : Color) (seen : Cells) : Type 0 where
   pub attackers : HasBits among (λ n. is_piece_of color (piece_at seen n))
   pub pieces : AreOccupied occupied seen
   pub same : (n : ℕ) → n < 81 → has_bit among n ≡ true → piece_at seen n ≡ piece_at cells n
 
--- on the board `seen`, the side has exactly the snipers on the mask `snipers`, as they stand in `cells`, and the mask `occupied` has the squares that are not empty
+-- on `seen`, the side's snipers are those on the squares `snipers`, as in `cells`, and `occupied` are the squares that are not empty
 pub record ShowsSnipers (cells : Cells) (square snipers occupied : ℕ) (color : Color) (seen : Cells) : Type 0 where
   pub snipers_on : HasBits snipers (is_sniper seen color square)
   pub pieces : AreOccupied occupied seen
   pub same : (n : ℕ) → n < 81 → has_bit snipers n ≡ true → piece_at seen n ≡ piece_at cells n
 
--- on each board on which the side's pieces are `among` and the occupied squares `occupied`, the answer is whether the side attacks the square
+-- on each board seen as `IsSeenAs` says, the answer is whether the side attacks the square
 abbrev pub TellsAttack : Cells → ℕ → ℕ → ℕ → Bool → Type 0
 TellsAttack cells among occupied square answer = (color : Color) (seen : Cells)
     → IsSeenAs cells among occupied color seen → answer ≡ is_attacked seen color square
 
--- on each board on which the side's snipers are `snipers` and the occupied squares `occupied`, the answer is whether one slides to the square
+-- on each board seen as `ShowsSnipers` says, the answer is whether a sniper slides to the square
 abbrev pub TellsSliderAttack : Cells → ℕ → ℕ → ℕ → Bool → Type 0
 TellsSliderAttack cells square snipers occupied answer = (color : Color) (seen : Cells)
     → ShowsSnipers cells square snipers occupied color seen → answer ≡ slider_attacks seen color square
 
--- on each board on which the side's snipers are `snipers` and the occupied squares `occupied`, the answer is whether one slides to the square against the direction of that number
+-- on each board seen as `ShowsSnipers` says, the answer is whether a sniper slides to the square against the direction
 abbrev pub TellsSliderAttackAlong : Cells → ℕ → ℕ → ℕ → ℕ → Bool → Type 0
 TellsSliderAttackAlong cells square direction snipers occupied answer = (color : Color) (seen : Cells)
     → ShowsSnipers cells square snipers occupied color seen
@@ -130,13 +130,13 @@ pub record IsFirstPiece (cells : Cells) (o : Offset) (from n : ℕ) : Type 0 whe
   pub reached : slides cells o from n ≡ true
   pub piece : is_none (piece_at cells n) ≡ false
 
--- `found` is the square of the first piece in the direction of that number, or `None` if the line is open
+-- `found` is the square of the first piece in the direction, or `None` if the line is open
 abbrev pub FindsPiece : Cells → ℕ → ℕ → Option ℕ → Type 0
 FindsPiece cells direction from found =
     MatchOption found (IsOpenLine cells (direction_at direction) from)
     (IsFirstPiece cells (direction_at direction) from)
 
--- on each board with this occupancy, `found` is the square of the first piece in the direction of that number, or `None` if the line is open
+-- on each board with this occupancy, `found` is the square of the first piece in the direction, if any
 abbrev pub FindsOccupied : ℕ → ℕ → ℕ → Option ℕ → Type 0
 FindsOccupied occupied direction from found =
     (cells : Cells) → AreOccupied occupied cells → FindsPiece cells direction from found
@@ -147,39 +147,39 @@ is_pinned_by cells color square o from sniper =
     is_piece_of color (piece_at cells from) && is_sniper cells (opponent_of color) square sniper
     && is_on_ray o square sniper && slides cells o square from && slides cells o from sniper
 
--- the mask has each piece of the side that is pinned to the square in the direction of that number
+-- the mask has each piece of the side pinned to the square in the direction of that number
 abbrev pub HasPinAlong : ℕ → Cells → Color → ℕ → ℕ → Type 0
 HasPinAlong m cells side square direction = (n a : ℕ) → n < 81 → a < 81
     → is_pinned_by cells side square (direction_at direction) n a ≡ true → has_bit m n ≡ true
 
--- the mask has each piece of the side that is pinned to the square, in whatever direction
+-- the mask has each piece of the side pinned to the square
 abbrev pub HasPinned : ℕ → Cells → Color → ℕ → Type 0
 HasPinned m cells side square = (d n a : ℕ) → d < 8 → n < 81 → a < 81
     → is_pinned_by cells side square (direction_at d) n a ≡ true → has_bit m n ≡ true
 
--- no piece of the side outside the mask is pinned: once it is lifted off, the side is not in check
+-- no piece of the side outside the mask is pinned: lifting it off gives no check
 abbrev pub OthersAreUnpinned : ℕ → Cells → Color → Type 0
 OthersAreUnpinned m cells side = (n : ℕ) → n < 81 → has_bit m n ≡ false
     → is_piece_of side (piece_at cells n) ≡ true → in_check (slice_set cells n None) side ≡ false
 
--- only the square `to` is filled: each other empty square stays empty, and each piece of the colour elsewhere stays
+-- only `to` is filled: other empty squares stay empty, and other pieces of the colour stay
 pub record FillsOnly (old new : Cells) (color : Color) (to : ℕ) : Type 0 where
   pub empty : (x : ℕ) → is_none (piece_at old x) ≡ true
       → (is_none (piece_at new x) ≡ true) ⊎ (x ≡ to)
   pub kept : (a : ℕ) → a ≢ to → is_piece_of color (piece_at old a) ≡ true
       → piece_at new a ≡ piece_at old a
 
--- the square stays attacked unless something comes to stand on a square of the mask
+-- the square stays attacked unless a square of the mask is filled
 abbrev pub StaysAttacked : ℕ → Cells → Color → ℕ → Type 0
 StaysAttacked m cells color square = (new : Cells) (to : ℕ) → to < 81 → has_bit m to ≡ false
     → FillsOnly cells new color to → is_attacked new color square ≡ true
 
--- if the side attacks the square, it stays attacked unless something comes to stand on a square of the mask
+-- if the side attacks the square, it stays attacked unless a square of the mask is filled
 abbrev pub StaysIfAttacked : ℕ → Cells → Color → ℕ → Type 0
 StaysIfAttacked m cells by square = is_attacked cells by square ≡ true
     → StaysAttacked m cells by square
 
--- the side stays in check unless something comes to stand on a square of the mask or a king moves
+-- the side stays in check unless a square of the mask is filled or a king moves
 abbrev pub StaysInCheck : ℕ → Cells → Color → Type 0
 StaysInCheck m cells side = (new : Cells) (to : ℕ) → to < 81 → has_bit m to ≡ false
     → FillsOnly cells new (opponent_of side) to

@@ -8,17 +8,17 @@ use Rattle.shogi_core.specs.declared.piece.Piece.{Piece}
 use Rattle.shogi_core.specs.Movement.{Cells, piece_at}
 use Rattle.shogi_core.specs.Pieces.{is_same_color}
 
--- the role is the king
+-- the king
 abbrev pub is_king_role : Role → Bool
 is_king_role King = true
 is_king_role _ = false
 
--- the role is the unpromoted pawn
+-- the unpromoted pawn
 abbrev pub is_pawn_role : Role → Bool
 is_pawn_role Pawn = true
 is_pawn_role _ = false
 
--- the role slides
+-- a role that slides
 abbrev pub is_sliding_role : Role → Bool
 is_sliding_role Lance = true
 is_sliding_role Bishop = true
@@ -47,7 +47,7 @@ abbrev pub is_pawn : Color → Option Piece → Bool
 is_pawn color None = false
 is_pawn color (Some piece) = is_same_color color piece.color && is_pawn_role piece.role
 
--- a piece of the side and role could never move again from the rank, counted from 0
+-- a piece of the side and role could never move again from the rank (counted from 0)
 abbrev pub is_immobile_role : Color → Role → ℕ → Bool
 is_immobile_role Black Pawn rank = nat_lt rank 1
 is_immobile_role Black Lance rank = nat_lt rank 1
@@ -57,7 +57,7 @@ is_immobile_role White Lance rank = nat_lt 7 rank
 is_immobile_role White Knight rank = nat_lt 6 rank
 is_immobile_role _ _ rank = false
 
--- what stands in the cell is a dead piece: one that could never move again from the square
+-- what stands in the cell could never move again from the square: a dead piece
 abbrev pub is_immobile : ℕ → Option Piece → Bool
 is_immobile square None = false
 is_immobile square (Some piece) = is_immobile_role piece.color piece.role (square % 9)

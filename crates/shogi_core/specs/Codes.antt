@@ -15,12 +15,12 @@ kind_at n =
     (cond (n == 2) kinds.Knight (cond (n == 3) kinds.Silver
     (cond (n == 4) kinds.Gold (cond (n == 5) kinds.Bishop kinds.Rook)))))
 
--- the code of a move: moves on the board come first, by `from`, `to` and promotion, then drops, by kind and `to`
+-- the code of a move: board moves by `from`, `to` and promotion, then drops by kind and `to`
 abbrev pub code_of : Move → ℕ
 code_of (Board from to promote) = (from * 81 + to) * 2 + cond promote 1 0
 code_of (Drop kind to) = FIRST_DROP + kind_number kind * 81 + to
 
--- the move with this code, if there is one
+-- the move with this code, if any
 abbrev pub move_of : ℕ → Option Move
 move_of code =
     cond (nat_lt code FIRST_DROP) (Some (Board (code / 2 / 81) (code / 2 % 81) (code % 2 == 1)))

@@ -31,7 +31,7 @@ are_lined cells a b = list_any (λ o. slides cells o a b) around
 abbrev pub are_aligned : ℕ → ℕ → Bool
 are_aligned a b = are_lined [] a b
 
--- a king of the side stands on `king`, on an open line with the square
+-- on `king` is a king of the side, on an open line with the square
 abbrev pub is_line_to_king : Cells → Color → ℕ → ℕ → Bool
 is_line_to_king cells color square king =
     is_king color (piece_at cells king) && are_lined cells square king

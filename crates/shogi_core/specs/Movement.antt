@@ -16,7 +16,7 @@ use Rattle.shogi_core.specs.declared.offset.Offset.{Offset}
 abbrev pub Cells : Type 0
 Cells = List (Option Piece)
 
--- the offset with these changes of file and rank
+-- an offset by its changes of file and rank
 abbrev pub offset_by : ℤ → ℤ → Offset
 offset_by file rank = record { file = file; rank = rank }
 
@@ -101,8 +101,8 @@ square_at (pos file) (pos rank) =
 square_at (pos file) (negsuc rank) = None
 square_at (negsuc file) rank = None
 
--- an offset stated for Black, turned for the side: for White the rank is reversed; the file stays, since every piece
--- has the same offsets to the left and to the right
+-- an offset of Black's, turned for the side: for White the rank is reversed; the file stays, since all pieces move
+-- alike to the left and to the right
 abbrev pub for_side : Color → Offset → Offset
 for_side Black offset = offset
 for_side White offset = offset_by offset.file (pos 0 -ℤ offset.rank)
@@ -139,7 +139,7 @@ abbrev pub slides_across : Cells → Offset → ℕ → ℕ → ℕ → Bool
 slides_across cells offset from to n =
     leads (n + 1) offset from to && all_below n (is_step_empty cells offset from)
 
--- a slide in the direction leads from `from` to `to` with 0 to 7 squares between, all empty, whatever stands on the ends
+-- a slide in the direction leads from `from` to `to` over 0 to 7 empty squares, whatever stands on the ends
 abbrev pub slides : Cells → Offset → ℕ → ℕ → Bool
 slides cells offset from to = some_below 8 (slides_across cells offset from to)
 

@@ -29,7 +29,7 @@ kind_number kinds.Gold = 4
 kind_number kinds.Bishop = 5
 kind_number kinds.Rook = 6
 
--- `next` is the kind with the next number, or `None` after the rook
+-- `next` is the kind after `kind`, or `None` after the rook
 abbrev pub IsKindAfter : Kind → Option Kind → Type 0
 IsKindAfter kind next =
     MatchOption next (kind_number kind ≡ 6) (λ k. kind_number k ≡ kind_number kind + 1)
@@ -40,7 +40,7 @@ all_kinds =
     kinds.Pawn ∷ kinds.Lance ∷ kinds.Knight ∷ kinds.Silver ∷ kinds.Gold ∷ kinds.Bishop ∷ kinds.Rook
     ∷ []
 
--- the number of pieces of the kind in one set
+-- the size of one set in pieces of the kind
 abbrev pub set_size : Kind → ℕ
 set_size kinds.Pawn = 18
 set_size kinds.Lance = 4
@@ -50,7 +50,7 @@ set_size kinds.Gold = 4
 set_size kinds.Bishop = 2
 set_size kinds.Rook = 2
 
--- the kind that a captured piece of the role becomes in hand; a king becomes none
+-- the kind that a captured piece of the role becomes in hand; none for a king
 abbrev pub kind_of : Role → Option Kind
 kind_of King = None
 kind_of Pawn = Some kinds.Pawn
@@ -77,7 +77,7 @@ abbrev pub is_of_kind : Kind → Option Piece → Bool
 is_of_kind kind None = false
 is_of_kind kind (Some piece) = is_role_of_kind kind (kind_of piece.role)
 
--- the role in which a piece of the kind is dropped
+-- the role of a dropped kind
 abbrev pub role_of : Kind → Role
 role_of kinds.Pawn = Pawn
 role_of kinds.Lance = Lance

@@ -16,7 +16,7 @@ abbrev pub place_of : Color → Kind → ℕ
 place_of Black kind = kind_number kind
 place_of White kind = kind_number kind + 7
 
--- the number of pieces of the kind in the side's hand
+-- the side's count of the kind in hand
 abbrev pub count_in_hand : HandCounts → Color → Kind → ℕ
 count_in_hand hands color kind = slice_index hands (place_of color kind)
 
@@ -26,7 +26,7 @@ pub record Shogi : Type 0 where
   pub hands : HandCounts
   pub side : Color
 
--- the position after a move on the board: `from` is empty, `piece` stands on `to`, the hands are `hands`, and the turn has passed
+-- the position after a board move: `from` is empty, `piece` is on `to`, the hands are `hands`, the turn has passed
 abbrev pub with_piece_moved : Shogi → ℕ → ℕ → Option Piece → HandCounts → Shogi
 with_piece_moved p from to piece hands = record {
   cells = slice_set (slice_set p.cells from None) to piece;
@@ -34,7 +34,7 @@ with_piece_moved p from to piece hands = record {
   side = opponent_of p.side;
 }
 
--- the position after a drop: `piece` stands on `to`, the hands are `hands`, and the turn has passed
+-- the position after a drop: `piece` is on `to`, the hands are `hands`, the turn has passed
 abbrev pub with_piece_dropped : Shogi → ℕ → Option Piece → HandCounts → Shogi
 with_piece_dropped p to piece hands = record {
   cells = slice_set p.cells to piece;

@@ -24,7 +24,7 @@ role_number role.PromotedSilver = 11
 role_number role.Horse = 12
 role_number role.Dragon = 13
 
--- the pieces have the same colour and the same role
+-- the pieces have one colour and one role
 abbrev pub is_same_piece : Piece → Piece → Bool
 is_same_piece a b = is_same_color a.color b.color && role_number a.role == role_number b.role
 

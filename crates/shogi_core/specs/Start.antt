@@ -12,7 +12,7 @@ use Rattle.shogi_core.specs.Position.{Shogi}
 abbrev pub cell_with : Color → Role → Option Piece
 cell_with color role = Some (record { color = color; role = role })
 
--- the 81 cells of the opening board, file by file, and rank by rank on each file
+-- the opening board, file by file, and rank by rank on each
 abbrev pub start_cells : Cells
 start_cells =
     cell_with White Lance ∷ None ∷ cell_with White Pawn ∷ None ∷ None ∷ None ∷ cell_with Black Pawn ∷ None ∷ cell_with Black Lance

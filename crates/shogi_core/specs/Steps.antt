@@ -6,7 +6,7 @@ use Rattle.shogi_core.specs.declared.piece.Color.{Color}
 use Rattle.shogi_core.specs.declared.piece.Color.TheVariants.{Black, White}
 use Rattle.shogi_core.specs.Movement.{jump_left, jump_right, leads, for_side, straight, diagonal, forward, gold_steps}
 
--- the step pattern of a number: none, king, pawn, knight, silver, gold, then the steps of a horse and of a dragon
+-- the step patterns: none, king, pawn, knight, silver, gold, and the steps of horse and dragon
 abbrev pub steps_at : ℕ → List Offset
 steps_at n =
     cond (n == 0) [] (cond (n == 1) (straight ++ diagonal)
@@ -14,11 +14,11 @@ steps_at n =
     (cond (n == 4) (forward ++ diagonal) (cond (n == 5) gold_steps
     (cond (n == 6) straight diagonal))))))
 
--- the number of a side: 0 for Black and 1 for White
+-- a number for each side
 abbrev pub color_number : Color → ℕ
 color_number Black = 0
 color_number White = 1
 
--- one of the offsets, turned for the side, leads from a to b in one step
+-- one of the side's offsets leads from a to b
 abbrev pub is_step : Color → List Offset → ℕ → ℕ → Bool
 is_step color os a b = list_any (λ o. leads 1 (for_side color o) a b) os

@@ -13,7 +13,7 @@ use Rattle.shogi_core.specs.Movement.{Cells, piece_at}
 use Rattle.shogi_core.specs.Pieces.{opponent_of, all_kinds, set_size, is_of_kind}
 use Rattle.shogi_core.specs.Position.{Shogi, HandCounts, count_in_hand}
 
--- the number of pieces of the kind on the board and in both hands, promoted ones included
+-- the count of a kind on the board and in both hands, promoted ones included
 abbrev pub count_of : Kind → Cells → HandCounts → ℕ
 count_of kind cells hands =
     count_by (is_of_kind kind) cells + count_in_hand hands Black kind
@@ -50,11 +50,11 @@ has_two_pawns_on cells file =
 abbrev pub has_two_pawns : Cells → Bool
 has_two_pawns cells = some_below 9 (has_two_pawns_on cells)
 
--- a piece stands on a square from which it could never move again
+-- some piece could never move again
 abbrev pub has_dead_piece : Cells → Bool
 has_dead_piece cells = some_below 81 (is_immobile_on cells)
 
--- the first fault of a position, if it has one
+-- the first fault, if any
 unfoldable pub fault_of : Shogi → Option PositionFault
 fault_of p =
     cond (has_too_many p.cells p.hands) (Some TooMany)
@@ -76,7 +76,7 @@ number_of_fault TwoPawns = 6
 number_of_fault DeadPiece = 7
 number_of_fault KingOpen = 8
 
--- a valid position: 81 cells, 14 counts in hand and no fault
+-- a valid position: of the right sizes and without a fault
 pub record IsValid (p : Shogi) : Type 0 where
   pub cells_fit : length p.cells ≡ 81
   pub hands_fit : length p.hands ≡ 14
