@@ -1,4 +1,4 @@
-//! Attacks, checks and pins, each found by looking from the attacked square.
+//! Attacks, checks and pins, seen from the attacked square.
 
 ghost use Rattle.std.specs.Prelude.{◌≡◌, ◌≢◌, ◌↔◌, ◌<◌, ◌≤◌, ◌^◌, ℕ, true, false, not, None, IfSome, IsNone};
 ghost use Rattle.shogi_core.specs.Attack.{HasNoSniper, is_attacked, is_open_king, in_check, is_sniper, is_sniping, cell_steps, cell_slides_back, is_step_from, is_step_among, slider_attacks_along, slider_attacks, FindsOccupied, FindsPiece, TellsAttack, TellsSliderAttack, TellsSliderAttackAlong, HasPinned, HasPinAlong, OthersAreUnpinned, HasNoStep, StaysIfAttacked, StaysInCheck};
@@ -39,7 +39,7 @@ fn sniper_squares(board: &Board, by: Color, from: Square) -> Squares
     board.own(by) & board.sliders() & line_mask(from)
 }
 
-/// Whether what stands on `from` attacks `to` by a step or a jump.
+/// Whether a step or jump leads what stands on `from` to `to`.
 fn steps_to(cell: Option<Piece>, from: Square, to: Square) -> bool
     ensures { result ≡ cell_steps cell from to }
 {
@@ -49,8 +49,7 @@ fn steps_to(cell: Option<Piece>, from: Square, to: Square) -> bool
     }
 }
 
-/// The square of a piece on one of the squares `among` that attacks the square by a step or a jump,
-/// or `None` if none does.
+/// The square of a piece among `among` that attacks the square by step or jump, if any.
 #[tactic(auto, using(crate::proofs::SliderAttacks::stepping))]
 fn first_stepper(board: &Board, among: Squares, square: Square) -> Option<Square>
     ensures if_none { IsNone result → HasNoStep board.now among.bits square }
@@ -66,7 +65,7 @@ fn first_stepper(board: &Board, among: Squares, square: Square) -> Option<Square
     None
 }
 
-/// Whether a piece on one of the squares `among` attacks the square by a step or a jump.
+/// Whether a piece among `among` attacks the square by step or jump.
 fn is_stepped_on_among(board: &Board, among: Squares, square: Square) -> bool
     ensures { result ≡ some_below 81 (is_step_among board.now among.bits square) }
 {
@@ -76,15 +75,14 @@ fn is_stepped_on_among(board: &Board, among: Squares, square: Square) -> bool
     }
 }
 
-/// Whether a piece of the side attacks the square by a step or a jump.
+/// Whether a piece of the side attacks the square by step or jump.
 fn is_stepped_on(board: &Board, by: Color, square: Square) -> bool
     ensures { result ≡ some_below 81 (is_step_from board.now by square) }
 {
     is_stepped_on_among(board, board.own(by), square)
 }
 
-/// Whether the piece in the cell slides against the direction: towards the square that the
-/// direction leads away from.
+/// Whether the piece in the cell slides against the direction.
 #[tactic(auto, using(crate::proofs::SliderAttacks::backing))]
 fn slides_back(cell: Option<Piece>, direction: Direction) -> bool
     ensures { result ≡ cell_slides_back (direction_at direction) cell }
@@ -126,15 +124,14 @@ fn slider_attacks_on(
     false
 }
 
-/// Whether a sniper is on the line from the square in the direction, whatever stands between.
+/// Whether a sniper is in the direction, whatever stands between.
 fn has_sniper(direction: Direction, square: Square, snipers: Squares) -> bool
     ensures { result ≡ false ↔ HasNoSniper direction square snipers.bits }
 {
     ray(direction, square).bits & snipers.bits != 0
 }
 
-/// A direction in which one of the snipers stands and slides back to the square, or `None` if none
-/// does.
+/// A direction from which one of the snipers slides to the square, if any.
 fn attacking_direction(
     board: &Board,
     by: Color,
@@ -169,8 +166,8 @@ fn slider_attacks(board: &Board, by: Color, square: Square, snipers: Squares) ->
     }
 }
 
-/// The nearest of some squares on one line, as seen from its start: the lowest index if indexes
-/// rise in the direction, else the highest.
+/// The nearest of some squares on a line, seen from its start: the lowest index if indexes rise in
+/// the direction, else the highest.
 fn nearest(places: u128, direction: Direction) -> Square
     requires some { places ≢ 0 }
     requires fits { places < 2 ^ 81 }
@@ -186,8 +183,8 @@ fn nearest(places: u128, direction: Direction) -> Square
     }
 }
 
-/// The first of the occupied squares in the direction, or `None` if there is none. It holds the
-/// first piece on every board with this occupancy.
+/// The first of the occupied squares in the direction, if any: the first piece on every board with
+/// this occupancy.
 #[tactic(auto, using(crate::proofs::Nearest::first_pieces))]
 fn first_occupied(occupied: Squares, direction: Direction, from: Square) -> Option<Square>
     ensures range { IfSome result (λ n. n < 81) }
@@ -201,7 +198,7 @@ fn first_occupied(occupied: Squares, direction: Direction, from: Square) -> Opti
     Some(nearest(pieces, direction))
 }
 
-/// The square of the first piece in the direction, or `None` if the line is empty.
+/// The square of the first piece in the direction, if any.
 fn first_piece(board: &Board, direction: Direction, from: Square) -> Option<Square>
     ensures range { IfSome result (λ n. n < 81) }
     ensures first { FindsPiece board.now direction from result }
@@ -209,7 +206,7 @@ fn first_piece(board: &Board, direction: Direction, from: Square) -> Option<Squa
     first_occupied(board.occupied(), direction, from)
 }
 
-/// Whether one of the snipers in the direction would slide back to the square on a board with this
+/// Whether one of the snipers in the direction slides back to the square on boards with this
 /// occupancy.
 #[inline(never)]
 fn slider_attacks_past(
@@ -232,7 +229,7 @@ fn slider_attacks_past(
     slides_back(board.at(first), direction)
 }
 
-/// Whether one of the snipers would slide to the square on a board with this occupancy.
+/// Whether one of the snipers slides to the square on boards with this occupancy.
 fn slider_attacks_among(board: &Board, square: Square, snipers: Squares, occupied: Squares) -> bool
     ensures { TellsSliderAttack board.now square snipers.bits occupied.bits result }
 {
@@ -249,7 +246,7 @@ fn slider_attacks_among(board: &Board, square: Square, snipers: Squares, occupie
 }
 
 /// Whether one of the snipers in the direction slides back to the square. If none does, adds to
-/// `pinned` the piece of the side, if any, that alone shields the square from a sniper there.
+/// `pinned` the piece of the side that alone shields the square from a sniper there.
 #[inline(never)]
 fn slider_check_or_pin(
     board: &Board,
@@ -305,8 +302,8 @@ fn pinned_to(board: &Board, side: Color, square: Square, snipers: Squares) -> Op
     Some(pinned)
 }
 
-/// The squares of pieces of the side that alone shield the square from a sniper, or `None` if the
-/// square is already attacked.
+/// The squares of pieces of the side that alone shield the square from a sniper, or `None` if it is
+/// attacked.
 #[tactic(auto, using(crate::proofs::SliderAttacks::attacking, crate::proofs::Pins::unpinned))]
 fn pinned_pieces(board: &Board, side: Color, square: Square) -> Option<Squares>
     ensures attacked { IsNone result → is_attacked board.now (opponent_of side) square ≡ true }
@@ -325,8 +322,8 @@ fn pinned_pieces(board: &Board, side: Color, square: Square) -> Option<Squares>
     pinned_to(board, side, square, snipers)
 }
 
-/// The squares on which a piece can end an attack by the side on the square: those of one attacker
-/// and of the way from it. Empty if there is no attack.
+/// The squares on which a piece ends an attack by the side on the square: those of one attacker and
+/// on its way. Empty without an attack.
 fn evasion_squares_on(board: &Board, by: Color, square: Square) -> Squares
     ensures stays { StaysIfAttacked result.bits board.now by square }
 {
@@ -350,8 +347,8 @@ impl Board {
             | four_slides(self, Direction::up_left(), square)
     }
 
-    /// The squares from which a piece of some kind could attack the square: those on open lines
-    /// with it and those a knight's jump away.
+    /// The squares from which a piece could attack the square: those on open lines with it or a
+    /// knight's jump away.
     #[tactic(auto, using(crate::proofs::SeenLaws::seen))]
     pub fn queen_and_knight_view(&self, square: Square) -> Squares
         ensures squares { HasBits result.bits (is_seen self.now square) }
@@ -376,7 +373,7 @@ impl Board {
     }
 
     /// Whether a piece on one of the squares `among` would attack the square on a board with this
-    /// occupancy. Answers for another board, if its attackers are `among` and stand here too.
+    /// occupancy: on another board whose attackers are `among` and stand here too.
     #[inline(always)]
     pub fn is_attacked_among(&self, square: Square, among: Squares, occupied: Squares) -> bool
         ensures { TellsAttack self.now among.bits occupied.bits square result }
@@ -406,9 +403,8 @@ impl Board {
         false
     }
 
-    /// If the side is in check: the squares to which a move must go, unless it moves a king, to
-    /// answer the check. They are that of one checking piece and those on its way. Empty if there
-    /// is no check.
+    /// If the side is in check: the squares to which a move, unless it moves a king, must go to
+    /// answer it: that of one checking piece and those on its way. Empty without a check.
     #[tactic(auto, using(crate::proofs::SeenLaws::open_kings), unfolding(crate::specs::Attack::in_check))]
     pub fn evasion_squares(&self, side: Color) -> Squares
         ensures stays { in_check self.now side ≡ true → StaysInCheck result.bits self.now side }
@@ -436,8 +432,8 @@ impl Board {
         found
     }
 
-    /// The squares of all pieces of the side that may be pinned: lifting off a piece of the side
-    /// from any other square gives no check. `None` if the side is already in check.
+    /// The squares of all pieces of the side that may be pinned: lifting any other piece of the
+    /// side off gives no check. `None` if the side is already in check.
     #[tactic(auto, using(crate::proofs::SeenLaws::open_kings, crate::proofs::Pins::pins))]
     pub fn pinned(&self, side: Color) -> Option<Squares>
         ensures checked { IsNone result → in_check self.now side ≡ true }

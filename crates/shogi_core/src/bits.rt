@@ -7,7 +7,7 @@ ghost use Rattle.shogi_core.specs.Bits.{HasBits, has_bit};
 /// The mask of all 81 squares.
 pub const ALL_SQUARES: u128 = 2417851639229258349412351;
 
-// 2^64, which divides the lower 64 bits from the upper ones.
+// 2^64, which divides the lower 64 bits from the others.
 const HALF: u128 = 18446744073709551616;
 
 /// The lower 64 bits of the mask.
@@ -59,7 +59,7 @@ pub fn without(mask: u128, n: usize) -> u128
     mask & !bit
 }
 
-/// Clears bit n, which must be set; the result is less than the mask.
+/// Clears bit n, which must be set: the result is less.
 #[tactic(auto, using(crate::proofs::SeenLaws::cleared))]
 pub fn cleared(mask: u128, n: usize) -> u128
     requires n { n < 128 }
@@ -70,7 +70,7 @@ pub fn cleared(mask: u128, n: usize) -> u128
     mask & !(1 << n)
 }
 
-/// The index of the lowest set bit of a mask that is not empty.
+/// The index of the lowest set bit; the mask must have one.
 #[tactic(auto, using(crate::proofs::LineBits::lowest_bit))]
 pub fn lowest(mask: u128) -> usize
     requires some { mask ≢ 0 }
@@ -82,7 +82,7 @@ pub fn lowest(mask: u128) -> usize
     mask.trailing_zeros() as usize
 }
 
-/// The index of the highest set bit of a mask that is not empty.
+/// The index of the highest set bit; the mask must have one.
 #[tactic(auto, using(crate::proofs::LineBits::highest_bit))]
 pub fn highest(mask: u128) -> usize
     requires some { mask ≢ 0 }

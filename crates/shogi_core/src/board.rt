@@ -1,4 +1,4 @@
-//! Boards: what stands on each square, and masks that follow from it.
+//! Boards of 81 cells, with masks that follow from them.
 
 ghost use Rattle.std.specs.Prelude.{◌≡◌, ◌<◌, ◌^◌, ℕ, length, slice_set, cond, ◌==◌, not, is_none};
 ghost use Rattle.shogi_core.specs.Bits.{HasBits, has_bit};
@@ -19,8 +19,8 @@ use crate::start::{
 use crate::words::{board_words, cell_number, with_digit};
 use std::marker::Model;
 
-/// A board, seen as its 81 cells by index. It may be part of no valid position. Masks and words
-/// follow from the cells, so only these are compared and hashed.
+/// A board, seen as its 81 cells by index. It may be part of no valid position. Only the cells are
+/// compared and hashed: masks and words follow from them.
 #[derive(Clone, Copy, Debug)]
 #[derive_where(PartialEq, Eq, Hash)]
 pub struct Board {
@@ -80,7 +80,7 @@ fn passing_squares<F: Fn(Option<Piece>) -> bool>(cells: &[Option<Piece>; 81], te
     mask
 }
 
-/// The mask with the bit of the square set if `on`, else clear.
+/// The mask with the square's bit set if `on`, else clear.
 #[tactic(auto, using(crate::proofs::MaskLaws::marks))]
 fn marked(mask: u128, square: Square, on: bool) -> u128
     ensures { (n : ℕ) → has_bit result n ≡ cond (n == square) on (has_bit mask n) }
@@ -184,14 +184,14 @@ impl Board {
         &self.words
     }
 
-    /// The piece on the square, or `None` if the square is empty.
+    /// The piece on the square, if any.
     pub fn at(&self, square: Square) -> Option<Piece>
         ensures { result ≡ piece_at self.now square }
     {
         self.cells[square.index()]
     }
 
-    /// Puts the piece on the square, or clears it with `None`; the rest of the board stays.
+    /// Puts the piece on the square (`None` empties it); all else stays.
     #[tactic(auto, using(crate::proofs::MaskLaws::own_bits))]
     pub fn set(&mut self, square: Square, piece: Option<Piece>)
         ensures { self.new ≡ slice_set self.old square piece }
@@ -211,7 +211,7 @@ impl Board {
         );
     }
 
-    /// A copy of the board with the piece put on the square, or the square cleared with `None`.
+    /// A copy of the board with the piece on the square (`None` empties it).
     pub fn put(self, square: Square, piece: Option<Piece>) -> Board
         ensures { result ≡ slice_set self square piece }
     {

@@ -1,4 +1,4 @@
-//! Tests of a cell: what stands on a square, or `None`.
+//! What stands on a square.
 
 ghost use Rattle.std.specs.Prelude.{◌≡◌};
 ghost use Rattle.shogi_core.specs.Cell.{is_piece_of, is_king, is_slider, is_pawn, is_immobile};
@@ -59,8 +59,8 @@ pub fn is_of_kind(cell: Option<Piece>, kind: Kind) -> bool
     }
 }
 
-/// Whether what stands in the cell could never move again from the square of this index (JSA
-/// playing rules: an unpromoted pawn or lance on its last rank, a knight on its last two).
+/// Whether what stands in the cell could never move again from the square (JSA playing rules: an
+/// unpromoted pawn or lance on its last rank, a knight on its last two).
 pub fn is_immobile(cell: Option<Piece>, square: usize) -> bool
     ensures { result ≡ is_immobile square cell }
 {

@@ -4,7 +4,7 @@ ghost use Rattle.std.specs.Prelude.{◌≡◌, ◌<◌, ◌+◌, ◌%◌, IfSome
 
 use std::marker::Model;
 
-// The numbers of three of the directions.
+// Numbers of some directions.
 pub const DOWN: usize = 0;
 
 pub const UP_LEFT: usize = 1;
@@ -47,7 +47,7 @@ impl Model for DirectionIter {
 }
 
 impl Direction {
-    /// The direction down, number 0.
+    /// Down, number 0.
     #[inline(always)]
     pub fn down() -> Direction
         ensures { result ≡ 0 }
@@ -55,7 +55,7 @@ impl Direction {
         Direction { number: DOWN }
     }
 
-    /// The direction up and left, number 1.
+    /// Up and left, number 1.
     #[inline(always)]
     pub fn up_left() -> Direction
         ensures { result ≡ 1 }
@@ -63,7 +63,7 @@ impl Direction {
         Direction { number: UP_LEFT }
     }
 
-    /// The direction up, number 4.
+    /// Up, number 4.
     #[inline(always)]
     pub fn up() -> Direction
         ensures { result ≡ 4 }
@@ -71,7 +71,7 @@ impl Direction {
         Direction { number: UP }
     }
 
-    /// The number of the direction, from 0 to 7.
+    /// The number, from 0 to 7.
     #[inline(always)]
     pub fn number(self) -> usize
         ensures number { result ≡ self }

@@ -32,14 +32,14 @@ impl Hands {
         Hands { counts: [0; 14] }
     }
 
-    /// The number of pieces of the kind in the side's hand.
+    /// The side's count of the kind.
     pub fn count(self, color: Color, kind: Kind) -> u8
         ensures { result ≡ count_in_hand self color kind }
     {
         self.counts[place(color, kind)]
     }
 
-    /// A copy of the hands with `n` pieces of the kind in the side's hand.
+    /// A copy of the hands in which the side has `n` of the kind.
     pub fn with(self, color: Color, kind: Kind, n: u8) -> Hands
         ensures { result ≡ slice_set self (place_of color kind) n }
     {

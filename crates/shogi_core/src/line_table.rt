@@ -1,6 +1,6 @@
 //! The table that `lines` reads.
 
-/// For each square by index: the squares aligned with it, whatever stands between.
+/// The squares aligned with each square, whatever stands between.
 pub const ALIGNED: [u128; 81] = [
     1214839173188409921636350,
     11826707147561493860349,

@@ -14,7 +14,7 @@ use crate::rays::ray;
 use crate::square::Square;
 use crate::squares::Squares;
 
-/// The squares aligned with the square on a file, rank or diagonal, whatever stands between.
+/// The squares aligned with the square, whatever stands between.
 pub fn line_mask(from: Square) -> Squares
     ensures squares { HasBits result.bits (are_aligned from) }
 {
@@ -43,14 +43,14 @@ pub fn falling_squares(board: &Board, direction: Direction, from: Square) -> Squ
 {
     direction.reveal_invariant();
     let line = ray(direction, from).bits;
-    // Bit 0 stands in if the line is empty: no line with falling indexes leads on from square 0.
+    // Bit 0 stands in for an empty line: no line with falling indexes leads on from square 0.
     let first = highest(line & board.occupied().bits | 1);
     Squares {
         bits: line & !ray(direction, Square::of_index(first)).bits,
     }
 }
 
-/// The squares that a slide in the direction reaches: up to the first piece, which is included.
+/// The squares that a slide in the direction reaches, up to the first piece.
 pub fn slide_squares(board: &Board, direction: Direction, from: Square) -> Squares
     ensures squares { HasBits result.bits (slides board.now (direction_at direction) from) }
 {

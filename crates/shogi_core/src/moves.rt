@@ -11,7 +11,7 @@ use crate::square::Square;
 /// The number of all moves; codes are the numbers below it (own choice).
 pub const MOVE_CODE_COUNT: u16 = 13689;
 
-/// The lowest code of a drop; lower codes are of moves on the board.
+/// The lowest code of a drop; lower codes are of board moves.
 pub const FIRST_DROP: u16 = 13122;
 
 /// The number of codes for moves from one square of the board.
@@ -69,8 +69,8 @@ impl Move {
         }
     }
 
-    /// The code of the move, from 0 to 13,688 (own choice): moves on the board by origin,
-    /// destination and promotion, then drops by kind and destination.
+    /// The code, from 0 to 13,688 (own choice): board moves by origin, destination and promotion,
+    /// then drops by kind and destination.
     #[tactic(auto, using(crate::proofs::CodesBack::codes_back))]
     pub fn code(self) -> u16
         ensures code { result ≡ code_of self }
@@ -86,7 +86,7 @@ impl Move {
         }
     }
 
-    /// The code of the move plus one: the first code above it.
+    /// The code plus one.
     pub fn code_above(&self) -> u16
         ensures code { result ≡ code_of self.now + 1 }
         ensures range { result ≤ MOVE_CODE_COUNT }
@@ -109,7 +109,7 @@ impl Move {
         }
     }
 
-    /// The move with this code, or `None` if the code is 13,689 or more.
+    /// The move with this code, or `None` from 13,689 on.
     pub fn of_code(code: u16) -> Option<Move>
         ensures value { result ≡ move_of code }
         ensures if_none { IsNone result ↔ (MOVE_CODE_COUNT ≤ code) }

@@ -1,4 +1,4 @@
-//! Offsets between squares, in which the definitions state steps and directions.
+//! Offsets, in which the definitions state steps and directions.
 
 /// A change of file and of rank, as Black sees the board.
 #[derive(Clone, Copy, Debug, PartialEq, Eq, Hash)]

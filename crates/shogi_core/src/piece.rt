@@ -42,7 +42,7 @@ pub enum Role {
     Dragon,
 }
 
-/// A piece on the board: its side and its role.
+/// A piece on the board.
 #[derive(Clone, Copy, Debug, PartialEq, Eq, Hash)]
 pub struct Piece {
     pub color: Color,
@@ -115,7 +115,7 @@ impl Kind {
         }
     }
 
-    /// The number of pieces of the kind in one set, promoted ones included.
+    /// The size of one set in pieces of the kind, promoted ones included.
     pub fn set_size(self) -> usize
         ensures { result ≡ set_size self }
     {
@@ -132,7 +132,7 @@ impl Kind {
 }
 
 impl Role {
-    /// The kind that a captured piece of the role becomes in hand, or `None` for a king.
+    /// The kind that a captured piece becomes in hand; `None` for a king.
     pub fn kind(self) -> Option<Kind>
         ensures { result ≡ kind_of self }
     {
@@ -162,7 +162,7 @@ impl Role {
         matches!(self, Role::Pawn)
     }
 
-    /// Whether the role slides: lance, bishop, rook, horse or dragon.
+    /// Whether the role slides.
     pub fn is_sliding(self) -> bool
         ensures { result ≡ is_sliding_role self }
     {

@@ -16,7 +16,7 @@ use crate::square::Square;
 use crate::validity::{PositionFault, fault};
 use std::marker::Model;
 
-/// A valid position: what stands on the board, the pieces in hand, and the side to move.
+/// A valid position: the board, the hands, and the side to move.
 #[derive(Clone, Copy, Debug, PartialEq, Eq, Hash)]
 pub struct Position {
     board: Board,
@@ -73,8 +73,8 @@ impl Position {
         Position { board, hands, side }
     }
 
-    /// Plays a move on the board: empties `from`, puts `piece` on `to`, sets the hands and passes
-    /// the turn. The result must be a position without a fault.
+    /// Plays a board move: empties `from`, puts `piece` on `to`, sets the hands and passes the
+    /// turn. The result must be without a fault.
     pub fn move_piece(&mut self, from: Square, to: Square, piece: Option<Piece>, hands: Hands)
         requires { fault_of (with_piece_moved self.old from to piece hands) ≡ None }
         ensures { self.new ≡ with_piece_moved self.old from to piece hands }
@@ -91,7 +91,7 @@ impl Position {
     }
 
     /// Plays a drop: puts `dropped` on `to`, sets the hands and passes the turn. The result must be
-    /// a position without a fault.
+    /// without a fault.
     pub fn drop_piece(&mut self, to: Square, dropped: Option<Piece>, hands: Hands)
         requires { fault_of (with_piece_dropped self.old to dropped hands) ≡ None }
         ensures { self.new ≡ with_piece_dropped self.old to dropped hands }
@@ -120,7 +120,7 @@ impl Position {
         &self.board
     }
 
-    /// The pieces in hand of both sides.
+    /// Both hands.
     pub fn hands(&self) -> Hands
         ensures { result ≡ self.now.hands }
     {
@@ -134,21 +134,21 @@ impl Position {
         self.side
     }
 
-    /// The number of pieces of the kind in the side's hand.
+    /// The side's count of the kind in hand.
     pub fn hand(&self, color: Color, kind: Kind) -> u8
         ensures { result ≡ count_in_hand self.now.hands color kind }
     {
         self.hands.count(color, kind)
     }
 
-    /// The piece on the square, or `None` if the square is empty.
+    /// The piece on the square, if any.
     pub fn at(&self, square: Square) -> Option<Piece>
         ensures { result ≡ piece_at self.now.cells square }
     {
         self.board.at(square)
     }
 
-    /// The square of the side's king, or `None` if the side has none.
+    /// The square of the side's king, if it has one.
     #[inline(always)]
     #[tactic(auto, using(crate::proofs::Kings::one_king))]
     pub fn king(&self, side: Color) -> Option<Square>

@@ -1,4 +1,4 @@
-//! Lines from a square to the edge of the board.
+//! Lines from a square to the edge.
 
 ghost use Rattle.std.specs.Prelude.{◌≡◌};
 ghost use Rattle.shogi_core.specs.Rays.{ray_of, direction_at};
@@ -8,7 +8,7 @@ use crate::ray_table::RAYS;
 use crate::square::Square;
 use crate::squares::Squares;
 
-/// All squares in the direction from the square, up to the edge, whatever stands there.
+/// The squares in the direction, up to the edge, whatever stands there.
 pub fn ray(direction: Direction, from: Square) -> Squares
     ensures ray { result.bits ≡ ray_of (direction_at direction) from }
 {

@@ -14,7 +14,7 @@ impl BitAnd for Squares {
 
     ghost bitand_gives = { λ a b both. both.bits ≡ bit_and a.bits b.bits };
 
-    /// The intersection: squares in both sets.
+    /// The squares in both sets.
     fn bitand(self, other: Squares) -> Squares {
         Squares {
             bits: self.bits & other.bits,
@@ -27,7 +27,7 @@ impl BitOr for Squares {
 
     ghost bitor_gives = { λ a b either. either.bits ≡ bit_or a.bits b.bits };
 
-    /// The union: squares in one set or the other.
+    /// The squares in either set.
     #[tactic(auto, using(crate::proofs::LineBits::or_fits))]
     fn bitor(self, other: Squares) -> Squares {
         Squares {
@@ -86,7 +86,7 @@ impl Squares {
         }
     }
 
-    /// The squares of the set that are not among the others.
+    /// The set without the others.
     #[tactic(auto, using(crate::proofs::LineBits::and_fits))]
     pub fn without(self, others: Squares) -> Squares
         ensures { result.bits ≡ bit_and self.bits (2 ^ 128 - 1 - others.bits) }
@@ -96,7 +96,7 @@ impl Squares {
         }
     }
 
-    /// The squares of the set that pass the test.
+    /// The squares that pass the test.
     pub fn sift<F: Fn(Square) -> bool>(self, test: F) -> Squares
         requires { F.IsAlwaysCallable test }
         ensures sifted { IsSifted (F.post test) self.bits result.bits }
@@ -113,7 +113,7 @@ impl Squares {
         Squares { bits: kept }
     }
 
-    /// The square of lowest index that passes the test, or `None` if none does.
+    /// The first square that passes the test, by index, if any.
     pub fn find<F: Fn(Square) -> bool>(self, test: F) -> Option<Square>
         requires { F.IsAlwaysCallable test }
         ensures if_none { IsNone result → NonePasses (F.post test) self.bits 81 }
@@ -133,7 +133,7 @@ impl Squares {
         None
     }
 
-    /// The union of the sets that `each` gives for the squares of this set.
+    /// The union of the sets that `each` gives for the squares.
     #[tactic(auto, using(crate::proofs::Sifting::uniting))]
     pub fn union<F: Fn(Square) -> Squares>(self, each: F) -> Squares
         requires { F.IsAlwaysCallable each }

@@ -61,7 +61,7 @@ impl Square {
         let _ = &self.index;
     }
 
-    /// The square with this index, which must be below 81.
+    /// The square of an index below 81.
     pub fn of_index(index: usize) -> Square
         requires { index < 81 }
         ensures { result ≡ index }

@@ -25,7 +25,7 @@ impl Model for SquareIter {
 }
 
 impl Squares {
-    /// Iterates over the squares of the set, by rising index.
+    /// Iterates over the squares by rising index.
     #[inline(always)]
     pub fn iter(self) -> SquareIter
         ensures { result ≡ self.bits }
@@ -35,7 +35,7 @@ impl Squares {
 }
 
 impl SquareIter {
-    /// The next square, or `None` if none is left.
+    /// The next square, if any.
     #[inline(always)]
     #[tactic(auto, using(crate::proofs::BitLaws::has_none))]
     pub fn next(&mut self) -> Option<Square>

@@ -33,7 +33,7 @@ fn color_number(color: Color) -> usize
     }
 }
 
-/// The squares to which a step or a jump leads the piece from the square.
+/// The squares that the piece reaches by step or jump.
 pub fn step_squares(piece: Piece, from: Square) -> Squares
     ensures squares { HasBits result.bits (has_step piece from) }
 {
@@ -42,14 +42,14 @@ pub fn step_squares(piece: Piece, from: Square) -> Squares
     }
 }
 
-/// The squares to which a step or a jump leads a piece of this side and role from the square.
+/// The squares that a piece of this side and role reaches by step or jump.
 fn squares_of(color: Color, role: Role, from: Square) -> Squares
     ensures squares { HasBits result.bits (has_step (record { color = color; role = role }) from) }
 {
     step_squares(Piece { color, role }, from)
 }
 
-/// The squares to which a knight of either side would jump from the square.
+/// The squares that a knight of either side would reach.
 #[tactic(auto, using(crate::proofs::TargetLaws::no_bits))]
 pub fn jump_squares(from: Square) -> Squares
     ensures squares { HasBits result.bits (is_jump from) }
@@ -57,7 +57,7 @@ pub fn jump_squares(from: Square) -> Squares
     squares_of(Color::Black, Role::Knight, from) | squares_of(Color::White, Role::Knight, from)
 }
 
-/// The squares next to the square or a knight's jump of either side away.
+/// The squares next to the square or a knight's jump away.
 #[tactic(auto, using(crate::proofs::TargetLaws::no_bits))]
 pub fn near_squares(from: Square) -> Squares
     ensures squares { HasBits result.bits (is_near from) }

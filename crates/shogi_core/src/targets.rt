@@ -15,7 +15,7 @@ use crate::squares::Squares;
 use crate::steps::step_squares;
 
 /// The squares that slides reach along files and ranks if `first` is down, or along diagonals if it
-/// is up-left. The four directions are `first` and its quarter turns.
+/// is up-left: in `first` and its quarter turns.
 #[inline(always)]
 pub fn four_slides(board: &Board, first: Direction, from: Square) -> Squares
     requires first { first < 2 }
@@ -31,7 +31,7 @@ pub fn four_slides(board: &Board, first: Direction, from: Square) -> Squares
     }
 }
 
-/// The squares that a slide forward reaches, as the side goes.
+/// The squares that a slide forward reaches.
 #[tactic(auto, using(crate::proofs::TargetLaws::one_way))]
 fn forward_squares(board: &Board, color: Color, from: Square) -> Squares
     ensures squares { HasBits result.bits (is_slide board.now color forward from) }

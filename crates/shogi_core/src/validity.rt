@@ -13,8 +13,8 @@ use crate::piece::{Color, KINDS, Kind, Piece};
 /// Why a position is not valid. Faults are looked for in this order.
 #[derive(Clone, Copy, Debug, PartialEq, Eq, Hash)]
 pub enum PositionFault {
-    /// There are more pieces of a kind than one set has, on the board and in both hands, promoted
-    /// ones included.
+    /// More pieces of a kind than one set has, on the board and in both hands, promoted ones
+    /// included.
     TooMany,
     /// A side has more than one king.
     TwoKings,
@@ -84,7 +84,7 @@ impl Board {
     }
 }
 
-/// Whether board and hands have more pieces of the kind than one set.
+/// Whether there are more pieces of the kind than one set has.
 fn has_too_many_of(cells: &[Option<Piece>; 81], hands: Hands, kind: Kind) -> bool
     ensures { result ≡ nat_lt (set_size kind) (count_of kind cells.now hands) }
 {
@@ -93,7 +93,7 @@ fn has_too_many_of(cells: &[Option<Piece>; 81], hands: Hands, kind: Kind) -> boo
     kind.set_size() < count_kind(cells, kind) + in_hand
 }
 
-/// Whether board and hands have more pieces of some kind than one set.
+/// Whether there are more pieces of some kind than one set has.
 fn has_too_many(cells: &[Option<Piece>; 81], hands: Hands) -> bool
     ensures { result ≡ has_too_many cells.now hands }
 {
@@ -123,7 +123,7 @@ fn has_two_pawns(cells: &[Option<Piece>; 81]) -> bool
     false
 }
 
-/// Whether a piece stands on a square from which it could never move again.
+/// Whether some piece could never move again.
 #[tactic(auto, using(crate::proofs::Below::some_below_more, crate::proofs::Below::some_below_none, crate::proofs::Below::some_below_at))]
 fn has_dead_piece(cells: &[Option<Piece>; 81]) -> bool
     ensures { result ≡ has_dead_piece cells.now }
@@ -136,7 +136,7 @@ fn has_dead_piece(cells: &[Option<Piece>; 81]) -> bool
     false
 }
 
-/// The first fault of a position with these parts, or `None` if it is valid.
+/// The first fault of a position with these parts, if any.
 #[tactic(auto, unfolding(crate::specs::Validity::fault_of))]
 pub fn fault(cells: &[Option<Piece>; 81], hands: Hands, side: Color) -> Option<PositionFault>
     ensures { result ≡ fault_of (record { cells = cells.now; hands = hands; side = side }) }

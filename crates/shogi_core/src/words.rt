@@ -5,7 +5,7 @@ ghost use Rattle.shogi_core.specs.Words.{board_words, cell_number, number_in_bas
 
 use crate::piece::{Color, Piece, Role};
 
-/// A number below 32 for what stands in the cell; 0 if the cell is empty.
+/// A number below 32 for what stands in the cell; 0 if empty.
 pub fn cell_number(cell: Option<Piece>) -> u64
     ensures number { result ≡ cell_number cell }
     ensures range { result < 32 }

@@ -13,7 +13,7 @@ use crate::position::Position;
 use crate::square::Square;
 use crate::squares::Squares;
 
-// Masks of ranks from rank 1 on and up to rank 9.
+// Masks of ranks, from rank 1 on or up to rank 9.
 const FIRST_RANK: u128 = 4731607904558235517441;
 
 const FIRST_TWO_RANKS: u128 = 14194823713674706552323;
@@ -40,7 +40,7 @@ pub fn is_promotable(role: Role) -> bool
     )
 }
 
-/// Whether the square is in the side's promotion zone, the three ranks farthest from it.
+/// Whether the square is on the three ranks in which the side promotes.
 pub fn in_promotion_zone(color: Color, square: Square) -> bool
     ensures { result ≡ in_promotion_zone color square }
 {
@@ -50,7 +50,7 @@ pub fn in_promotion_zone(color: Color, square: Square) -> bool
     }
 }
 
-/// Whether what stands in the cell may promote when it moves between the squares.
+/// Whether what stands in the cell may promote by a move between the squares.
 pub fn may_promote(cell: Option<Piece>, from: Square, to: Square) -> bool
     ensures { result ≡ may_promote cell from to }
 {
@@ -61,8 +61,7 @@ pub fn may_promote(cell: Option<Piece>, from: Square, to: Square) -> bool
     }
 }
 
-// The squares from which a piece of Black, and of White, could never move again, by role in the
-// order in which roles are declared.
+// The squares from which a piece of Black or White could never move again, by role as declared.
 const BLACK_DEAD: [u128; 14] = [
     0,
     FIRST_RANK,
@@ -124,7 +123,7 @@ pub fn zone_squares(color: Color) -> Squares
     Squares { bits }
 }
 
-/// The side's promotion zone and the two ranks before it, from which a step or a jump may enter it.
+/// The side's promotion zone and the two ranks before it, from which a step or jump may enter it.
 #[tactic(auto, using(crate::proofs::ZoneLaws::zone_bits))]
 pub fn squares_near_zone(color: Color) -> Squares
     ensures squares { HasBits result.bits (is_near_zone color) }
@@ -136,7 +135,7 @@ pub fn squares_near_zone(color: Color) -> Squares
     Squares { bits }
 }
 
-/// The destinations at which the piece may promote when it moves from `from`.
+/// The destinations at which the piece, moving from `from`, may promote.
 #[tactic(auto, using(crate::proofs::ZoneLaws::promoting_bits))]
 pub fn promoting_squares(cell: Option<Piece>, from: Square) -> Squares
     ensures squares { HasBits result.bits (may_promote cell from) }
@@ -168,8 +167,7 @@ const FILES: [u128; 9] = [
 ];
 
 /// The squares of the file if an unpromoted pawn of the side stands on the square, else none. Meant
-/// to compile without a branch: pawns stand among the other pieces in no order that a processor
-/// could predict.
+/// to compile without a branch, since pawns stand among the others without order.
 #[inline(always)]
 #[tactic(auto, using(crate::proofs::PawnFiles::pawn_file_bits))]
 fn pawn_file(p: &Position, side: Color, square: Square) -> Squares

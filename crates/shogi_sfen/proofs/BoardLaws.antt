@@ -56,7 +56,7 @@ ranks-step word rest squares rank new n k has e h r nine add =
 some_part : (rest : List ℕ) → 0 < length (slice_split is_slash rest)
 some_part rest = let n : length (slice_split is_slash rest) ≡ count_by is_slash rest + 1 = length-slice_split is_slash rest in omega arith
 
--- a number of parts other than nine gives no board
+-- other than nine parts give no board
 other_count : (parts : List (List ℕ)) → (length parts ≡ 9 → ⊥) → squares_of parts ≡ None
 other_count parts h = cond-false (length parts == 9) _ _ (ne_eqb (length parts) 9 h)
 

@@ -11,7 +11,7 @@ use Rattle.shogi_sfen.specs.Numbers.{number_written}
 pub number_written-more : (bs : List ℕ) (i : ℕ) → i < length bs → number_written (take (i + 1) bs) ≡ number_written (take i bs) * 10 + digit_value (get_or bs i 0)
 number_written-more bs i h = digits_value_more 10 bs i h
 
--- capping a number before a digit is appended changes nothing after it is capped again
+-- a number may be capped before a digit is appended and again after
 pub min-more : (most n m d : ℕ) → m ≡ min most n → min most (m * 10 + d) ≡ min most (n * 10 + d)
 min-more most n m d e = omega arith
 
@@ -22,7 +22,7 @@ in_range c e =
     let high : c ≤ 57 = leb-true c 57 h.1 in
     cond-false (nat_lt c 48) _ _ (le-ltb c 48 low) ∙ cond-true (nat_lt c 58) _ _ (lt-ltb c 58 (omega arith))
 
--- the number of the digits read so far
+-- the number of the digits so far
 pub record IsReadTo (bs : List ℕ) (most m i : ℕ) : Type 0 where
   pub value : m ≡ min most (number_written (take i bs))
   pub digits : list_all is_ascii_digit (take i bs) ≡ true

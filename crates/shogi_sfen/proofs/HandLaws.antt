@@ -27,7 +27,7 @@ at_byte : (hands : HandCounts) (count : Option ℕ) (byte : ℕ) (bytes : List �
 at_byte hands None byte bytes = refl
 at_byte hands (Some n) byte bytes = refl
 
--- capping numbers before a sum changes nothing after the sum is capped
+-- numbers may be capped before a sum and again after
 pub min-sum : (a n : ℕ) → min COUNTED_MAX (min COUNTED_MAX a + min COUNTED_MAX n) ≡ min COUNTED_MAX (a + n)
 min-sum a n = omega arith
 

@@ -31,7 +31,7 @@ letter_back Black kind hands (Some n) rest = refl
 letter_back White kind hands None rest = refl
 letter_back White kind hands (Some n) rest = refl
 
--- one digit of a count is read
+-- a digit is read
 digit_back : (d : ℕ) (hands : HandCounts) (rest : List ℕ) → 1 ≤ d → d < 10 → hands_from hands None ((d + 48) ∷ rest) ≡ hands_from hands (Some d) rest
 digit_back d hands rest low high =
     cond-true (is_ascii_digit (d + 48)) _ _ (digit d high)

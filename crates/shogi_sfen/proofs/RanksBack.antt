@@ -36,11 +36,11 @@ more_squares : (item : RankItem) (items : Option (List RankItem)) (cells : Cells
 more_squares item None cells e = cc
 more_squares item (Some items) cells e = let same : flat_map item_cells items ≡ cells = cc in ap (λ (c : Cells). Some (item_cells item ++ c)) same
 
--- an item's cells come before those of other items
+-- an item's cells come first
 in_front : (item : RankItem) (rest : List ℕ) (cells : Cells) → RunFits item → squares_in (items_from false rest) ≡ Some cells → squares_in (items_from false (item_text item ++ rest)) ≡ Some (item_cells item ++ cells)
 in_front item rest cells h e = ap squares_in (item_back item rest h) ∙ more_squares item (items_from false rest) cells e
 
--- a run of empty squares is read before other items
+-- a run of empty squares is read
 run_back : (n : ℕ) (rest : List ℕ) (cells : Cells) → n ≤ 9 → squares_in (items_from false rest) ≡ Some cells → squares_in (items_from false (run_text n ++ rest)) ≡ Some (replicate n None ++ cells)
 run_back zero rest cells h e = e
 run_back (suc k) rest cells h e =

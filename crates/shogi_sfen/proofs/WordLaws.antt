@@ -26,7 +26,7 @@ position_or_len-yes p x xs e = ap (λ (b : Bool). cond (not b) (1 + position_or_
 pub position_or_len-no : (p : ℕ → Bool) (x : ℕ) (xs : List ℕ) → p x ≡ false → position_or_len p (x ∷ xs) ≡ suc (position_or_len p xs)
 position_or_len-no p x xs e = ap (λ (b : Bool). cond (not b) (1 + position_or_len p xs) 0) e ∙ omega arith
 
--- a blank before a text adds no word
+-- a leading blank adds no word
 pub words-blank : (b : ℕ) (bs : List ℕ) → is_blank b ≡ true → words (b ∷ bs) ≡ words bs
 unfolding words
 words-blank b bs e = ap (filter has_bytes) (slice_split-cons_yes is_blank b bs e)
@@ -35,7 +35,7 @@ words-from_word-cons : (b : ℕ) (bs : List ℕ) → words bs ≡ words (from_wo
 words-from_word-cons b bs ih true e = words-blank b bs e ∙ (ih ∙ ap (λ k. words (drop k (b ∷ bs))) (sym (position_or_len-no is_word_byte b bs (not_from_true (is_blank b) e))))
 words-from_word-cons b bs ih false e = ap (λ k. words (drop k (b ∷ bs))) (sym (position_or_len-yes is_word_byte b bs (not_from_false (is_blank b) e)))
 
--- blanks before a text add no word
+-- leading blanks add no word
 pub words-from_word : (text : List ℕ) → words text ≡ words (from_word text)
 words-from_word [] = refl
 words-from_word (b ∷ bs) = words-from_word-cons b bs (words-from_word bs) (is_blank b) refl
@@ -64,7 +64,7 @@ unfolding words
 cuts [] = record { more = []; parts = refl; follow = refl }
 cuts (x ∷ xs) = cuts-cons x xs (cuts xs) (is_blank x) refl
 
--- a text that begins with a word byte has its first word up to the next blank
+-- a text that begins with a word byte begins with its first word
 words-inner : (c : ℕ) (cs : List ℕ) → is_blank c ≡ false → words (c ∷ cs) ≡ before_first is_blank (c ∷ cs) ∷ words (drop (position_or_len is_blank (c ∷ cs)) (c ∷ cs))
 unfolding words
 words-inner c cs e =
@@ -112,7 +112,7 @@ pub words-some : (text : List ℕ) → 0 < length (drop (position_or_len is_word
 unfolding after_word
 words-some text h = words-from_word text ∙ words-at (from_word text) (begins text h)
 
--- a word cut off from a text, with the rest
+-- a word and the rest after it
 pub record IsNextWord (text word rest : List ℕ) : Type 0 where
   pub first : words text ≡ word ∷ words rest
   pub after : rest ≡ after_word text
@@ -132,6 +132,6 @@ next_word text from word rest n k en ef h ek ew er =
     let all : words text ≡ word ∷ words rest = words-some text here ∙ (ap (λ (v : List ℕ). v ∷ words (after_word text)) w ∙ ap (λ (v : List ℕ). word ∷ words v) r) in
     record { first = all; after = sym r; fewer = shorter (words text) (words rest) word all }
 
--- no word is left if no byte of one is found
+-- no word is left if none begins
 pub no_word : (text from : List ℕ) (n : ℕ) → n ≡ position_or_len is_word_byte text → from ≡ drop n text → length from ≡ 0 → words text ≡ []
 no_word text from n en ef h = words-none text (ap length (sym (ef ∙ ap (λ (i : ℕ). drop i text) en)) ∙ h)

@@ -114,7 +114,7 @@ unfolding words
 words_at word rest inner some =
     ap (filter has_bytes) (slice_split_at is_blank word 32 rest (not_blank word inner) refl) ∙ cond-true (has_bytes word) (word ∷ filter has_bytes (slice_split is_blank rest)) (filter has_bytes (slice_split is_blank rest)) some
 
--- a word before a blank or the end is the first word
+-- a word before a blank or the end comes first
 last_word : (word tail : List ℕ) → list_all is_word_byte word ≡ true → has_bytes word ≡ true → EndsWord tail → slice_get (words (word ++ tail)) 0 ≡ Some word
 unfolding words
 last_word word [] inner some ends =

@@ -61,7 +61,7 @@ hands-some old black white hands b w e =
     let some : length (side_held_text hands Black ++ side_held_text hands White) ≡ 0 → ⊥ = λ none. e (ap length all ∙ (length-append old (side_held_text hands Black ++ side_held_text hands White) ∙ omega arith)) in
     all ∙ ap (λ (t : List ℕ). old ++ t) (sym (some_left (side_held_text hands Black ++ side_held_text hands White) some))
 
--- in a valid position each count in hand is below 100
+-- in a valid position each hand count is below 100
 pub few_held : (p : Shogi) → IsValid p → (color : Color) (kind : Kind) → count_in_hand p.hands color kind < 100
 unfolding fault_of
 few_held p v color kind = let few : count_in_hand p.hands color kind ≤ 18 = held_of_set p.cells p.hands (cond_none _ _ _ v.no_fault).0 color kind in omega arith

@@ -17,12 +17,12 @@ item_named plus byte =
     (Some (Empty (byte - ZERO)))
     (option_map (λ piece. Occupied piece) (piece_named plus byte))
 
--- an item before other items, if all are there
+-- an item before other items
 abbrev pub onto_items : Option RankItem → Option (List RankItem) → Option (List RankItem)
 onto_items (Some item) (Some items) = Some (item ∷ items)
 onto_items _ _ = None
 
--- the byte is a plus that begins an item
+-- a plus that begins an item
 abbrev pub is_first_plus : Bool → ℕ → Bool
 is_first_plus plus byte = not plus && byte == PLUS
 
@@ -33,7 +33,7 @@ items_from plus (byte ∷ bytes) =
     cond (is_first_plus plus byte) (items_from true bytes)
     (onto_items (item_named plus byte) (items_from false bytes))
 
--- the cells of the items, one after another
+-- the cells of the items
 abbrev pub squares_in : Option (List RankItem) → Option Cells
 squares_in items = option_map (flat_map item_cells) items
 
@@ -42,21 +42,21 @@ abbrev pub only_nine : Option Cells → Option Cells
 only_nine None = None
 only_nine (Some cells) = cond (length cells == RANK_SQUARES) (Some cells) None
 
--- the nine cells that a rank's text writes, from file 9 to file 1
+-- the nine cells of a rank, from file 9 to file 1
 unfoldable pub rank_of : List ℕ → Option Cells
 rank_of part = only_nine (squares_in (items_from false part))
 
--- the cells before further cells, if these are there
+-- cells before further cells
 abbrev pub joined : Cells → Option Cells → Option Cells
 joined cells None = None
 joined cells (Some more) = Some (cells ++ more)
 
--- two lists of cells joined, if both are there
+-- cells before further cells, if both are there
 abbrev pub both_joined : Option Cells → Option Cells → Option Cells
 both_joined None more = None
 both_joined (Some cells) more = joined cells more
 
--- the cells that the ranks' texts write, one after another
+-- the cells of ranks, one after another
 abbrev pub ranks_of : List (List ℕ) → Option Cells
 ranks_of [] = Some []
 ranks_of (part ∷ parts) = both_joined (rank_of part) (ranks_of parts)
@@ -65,11 +65,11 @@ ranks_of (part ∷ parts) = both_joined (rank_of part) (ranks_of parts)
 abbrev pub is_slash : ℕ → Bool
 is_slash byte = byte == SLASH
 
--- the index of a square in the order of a text: rank by rank, and from file 9 on each
+-- the index of a square in a text: rank by rank, each from file 9 on
 abbrev pub place_in_text : ℕ → ℕ
 place_in_text square = square % 9 * 9 + (8 - square / 9)
 
--- the cells by index of squares, from cells in the order of a text
+-- the board of cells in the order of a text
 abbrev pub board_from : Cells → Cells
 board_from squares =
     map (λ square. piece_at squares (place_in_text square)) (range_with_len 0 BOARD_SQUARES)
@@ -78,6 +78,6 @@ board_from squares =
 abbrev pub squares_of : List (List ℕ) → Option Cells
 squares_of parts = cond (length parts == 9) (ranks_of parts) None
 
--- the cells that a board's text writes, if the word is one
+-- the board that a word writes, if any
 unfoldable pub board_of : List ℕ → Option Cells
 board_of word = option_map board_from (squares_of (slice_split is_slash word))

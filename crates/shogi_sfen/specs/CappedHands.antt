@@ -11,14 +11,14 @@ use Rattle.shogi_sfen.specs.declared.byte.TheConstants.{ZERO}
 use Rattle.shogi_sfen.specs.declared.hand_text.TheConstants.{COUNTED_MAX}
 use Rattle.shogi_sfen.specs.Letters.{piece_named}
 
--- `count` more of the kind in the side's hand, at most `COUNTED_MAX` in all
+-- `count` more of the kind, at most `COUNTED_MAX` in all
 abbrev pub capped_kind : HandCounts → ℕ → Color → Option Kind → Option HandCounts
 capped_kind hands count color None = None
 capped_kind hands count color (Some kind) =
     Some (slice_set hands (place_of color kind)
     (min COUNTED_MAX (count_in_hand hands color kind + count)))
 
--- `count` more of a piece in hand, at most `COUNTED_MAX` in all, if it can be held
+-- `count` more of a piece that can be held, at most `COUNTED_MAX` in all
 abbrev pub capped_piece : HandCounts → ℕ → Option Piece → Option HandCounts
 capped_piece hands count None = None
 capped_piece hands count (Some piece) = capped_kind hands count piece.color (kind_of piece.role)
@@ -29,7 +29,7 @@ capped_digit count byte =
     cond (is_none count && byte == ZERO) None
     (Some (min COUNTED_MAX (unwrap_or count 0 * 10 + (byte - ZERO))))
 
--- the hands that the bytes add to `hands`, with the count that stands right before them, if any
+-- the hands after the bytes, with the count right before them, if any
 abbrev pub capped_from : HandCounts → Option ℕ → List ℕ → Option HandCounts
 capped_from hands None [] = Some hands
 capped_from hands (Some count) [] = None

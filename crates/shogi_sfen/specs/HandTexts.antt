@@ -12,13 +12,13 @@ use Rattle.shogi_core.specs.Pieces.{kind_of}
 use Rattle.shogi_core.specs.Position.{HandCounts, count_in_hand, place_of}
 use Rattle.shogi_sfen.specs.Letters.{piece_named}
 
--- `count` more of the kind in the side's hand
+-- `count` more of the kind in hand
 abbrev pub with_kind : HandCounts → ℕ → Color → Option Kind → Option HandCounts
 with_kind hands count color None = None
 with_kind hands count color (Some kind) =
     Some (slice_set hands (place_of color kind) (count_in_hand hands color kind + count))
 
--- `count` more of a piece in hand, if it can be held
+-- `count` more of a piece that can be held
 abbrev pub with_piece : HandCounts → ℕ → Option Piece → Option HandCounts
 with_piece hands count None = None
 with_piece hands count (Some piece) = with_kind hands count piece.color (kind_of piece.role)
@@ -28,7 +28,7 @@ abbrev pub with_digit : Option ℕ → ℕ → Option ℕ
 with_digit count byte =
     cond (is_none count && byte == ZERO) None (Some (unwrap_or count 0 * 10 + (byte - ZERO)))
 
--- the hands that the bytes add to `hands`, with the count that stands right before them, if any
+-- the hands after the bytes, with the count right before them, if any
 abbrev pub hands_from : HandCounts → Option ℕ → List ℕ → Option HandCounts
 hands_from hands None [] = Some hands
 hands_from hands (Some count) [] = None
@@ -42,7 +42,7 @@ hands_from hands count (byte ∷ bytes) =
 abbrev pub no_hands : HandCounts
 no_hands = replicate 14 0
 
--- the hands that a word writes, with counts of any size, if it is a text of hands
+-- the hands that a word writes, with counts of any size
 unfoldable pub hands_of : List ℕ → Option HandCounts
 hands_of word =
     cond (bytes_eq word (codes "-")) (Some no_hands)

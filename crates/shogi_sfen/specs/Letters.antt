@@ -37,7 +37,7 @@ abbrev pub letter_or_king : Option Kind → ℕ
 letter_or_king None = KING
 letter_or_king (Some kind) = letter_of kind
 
--- the letter in the side's case: upper for Black, lower for White
+-- upper case for Black, lower case for White
 abbrev pub cased_for : Color → ℕ → ℕ
 cased_for Black letter = letter
 cased_for White letter = letter + TO_LOWER_CASE
@@ -46,7 +46,7 @@ cased_for White letter = letter + TO_LOWER_CASE
 abbrev pub piece_letter : Piece → ℕ
 piece_letter piece = cased_for piece.color (letter_or_king (kind_of piece.role))
 
--- the letter of a piece, after a plus if it is promoted
+-- the letter of a piece, after a plus if promoted
 abbrev pub piece_text : Piece → List ℕ
 piece_text piece = cond (is_promoted piece.role) (PLUS ∷ []) [] ++ piece_letter piece ∷ []
 
@@ -62,7 +62,7 @@ is_named plus letter piece =
     cond plus (is_promoted piece.role) (not (is_promoted piece.role))
     && piece_letter piece == letter
 
--- the side that writes the letter in this case
+-- the side by the letter's case
 abbrev pub color_of_letter : ℕ → Color
 color_of_letter letter = cond (nat_lt letter LOWER_CASE) Black White
 
@@ -71,7 +71,7 @@ abbrev pub role_named : Bool → ℕ → Color → Option Role
 role_named plus letter color =
     find (λ role. is_named plus letter (record { color = color; role = role })) all_roles
 
--- a piece of the side and role, if there is a role
+-- a piece of the side and role
 abbrev pub piece_of_side : Color → Option Role → Option Piece
 piece_of_side color None = None
 piece_of_side color (Some role) = Some (record { color = color; role = role })

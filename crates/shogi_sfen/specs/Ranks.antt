@@ -5,7 +5,7 @@ use Rattle.shogi_sfen.specs.declared.board_text.RankItem.{RankItem}
 use Rattle.shogi_sfen.specs.declared.board_text.TheConstants.{RANK_SQUARES}
 use Rattle.shogi_sfen.specs.Items.{item_cells}
 
--- `taken` tells whether the item's squares were appended; if not, there is no item or no room for its squares
+-- the item's squares were appended, or there is no item or no room for them
 abbrev pub TakesItem : Option RankItem → Cells → Cells → Bool → Type 0
 TakesItem None old new taken = taken ≡ false
 TakesItem (Some item) old new true = new ≡ old ++ item_cells item

@@ -6,7 +6,7 @@ use Rattle.shogi_core.specs.declared.moves.Move.TheVariants.{Board, Drop}
 use Rattle.shogi_sfen.specs.declared.byte.TheConstants.{FIRST_FILE, FIRST_RANK, PLUS, STAR}
 use Rattle.shogi_sfen.specs.Letters.{kind_named}
 
--- the square of a digit for its file and a letter for its rank
+-- the square of a file digit and a rank letter
 abbrev pub square_read : ℕ → ℕ → Option ℕ
 square_read file rank =
     cond (nat_lt (FIRST_FILE - 1) file && nat_lt file (FIRST_FILE + 9)
@@ -23,7 +23,7 @@ abbrev pub drop_read : Option Kind → Option ℕ → Option Move
 drop_read (Some kind) (Some to) = Some (Drop kind to)
 drop_read _ _ = None
 
--- the move of four bytes: a drop if the second is a star, else a move on the board
+-- the move of four bytes: a drop if the second is a star, else a board move
 abbrev pub short_read : List ℕ → Option Move
 short_read text =
     let to = square_read (slice_index text 2) (slice_index text 3) in

@@ -26,7 +26,7 @@ abbrev pub judged : Option PositionFault → Shogi → ℕ → Result (Shogi × 
 judged None position end = Ok (position, end)
 judged (Some fault) position end = Err (Invalid fault)
 
--- the position of the parts read, or the first fault: a missing part, then a fault of the position
+-- the position of the parts, or the first fault: of the text, then of the position
 abbrev pub position_of_parts : Option Cells → Option Color → Option HandCounts → ℕ
     → Result (Shogi × ℕ) SfenFault
 position_of_parts None side hands end = Err BadBoard

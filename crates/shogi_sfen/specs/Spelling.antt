@@ -19,7 +19,7 @@ use Rattle.shogi_sfen.specs.Letters.{letter_of, cased_for}
 use Rattle.shogi_sfen.specs.Items.{RunFits, item_cells, item_text}
 use Rattle.shogi_sfen.specs.Written.{rank_cells, side_text, or_hyphen}
 
--- a text spells a rank if it is that of items, such as `3` or `+P`, with the nine cells of the rank, from file 9 to file 1; empty squares may be cut into any runs
+-- a rank is spelled by items, such as `3` or `+P`, with its nine cells, from file 9 to file 1; empty squares may be cut into any runs
 pub record SpellsRank (text : List ℕ) (cells : Cells) : Type 0 where
   pub items : List RankItem
   pub each : AllByRecursion RunFits items
@@ -27,7 +27,7 @@ pub record SpellsRank (text : List ℕ) (cells : Cells) : Type 0 where
   pub nine : length cells ≡ RANK_SQUARES
   pub spelled : flat_map item_text items ≡ text
 
--- a text spells a board if it is the texts of its nine ranks, from a to i, joined by slashes
+-- a board is spelled by the texts of its nine ranks, from a to i, joined by slashes
 pub record SpellsBoard (text : List ℕ) (cells : Cells) : Type 0 where
   pub cells_fit : length cells ≡ BOARD_SQUARES
   pub ranks : List (List ℕ)
@@ -64,7 +64,7 @@ is_hand_item_of color kind item =
 abbrev pub count_given : Color → Kind → HandItem → ℕ
 count_given color kind item = cond (is_hand_item_of color kind item) (count_written item.digits) 0
 
--- a text spells hands if it is that of items in any order, whose counts add up to each of the fourteen counts, or a hyphen for empty hands
+-- hands are spelled by items in any order, whose counts add up to the fourteen counts, or by a hyphen if empty
 pub record SpellsHands (text : List ℕ) (hands : HandCounts) : Type 0 where
   pub places : length hands ≡ 14
   pub items : List HandItem
@@ -73,7 +73,7 @@ pub record SpellsHands (text : List ℕ) (hands : HandCounts) : Type 0 where
       → count_in_hand hands color kind ≡ sum_by (count_given color kind) items
   pub spelled : or_hyphen (flat_map hand_item_text items) ≡ text
 
--- a text spells a position if its first three words spell the board, the side to move and the hands; what follows them does not matter
+-- a position is spelled by three first words, for board, side to move and hands, whatever follows
 pub record Spells (text : List ℕ) (position : Shogi) : Type 0 where
   pub board : IsSomeAnd (slice_get (words text) 0) (λ word. SpellsBoard word position.cells)
   pub side : IsSomeAnd (slice_get (words text) 1) (λ word. word ≡ side_text position.side)
@@ -107,14 +107,14 @@ abbrev pub HasHands : List ℕ → Type 0
 HasHands text =
     IsSomeAnd (slice_get (words text) 2) (λ word. (hands : HandCounts) × SpellsHands word hands)
 
--- the first word is missing or spells no board
+-- no first word spells a board
 abbrev pub LacksBoard : List ℕ → Type 0
 LacksBoard text = HasBoard text → ⊥
 
--- the first word spells a board, and the second is missing or spells no side
+-- the first word spells a board, and no second word spells a side
 abbrev pub LacksSide : List ℕ → Type 0
 LacksSide text = HasBoard text × (HasSide text → ⊥)
 
--- the first two words spell a board and a side, and the third is missing or spells no hands
+-- the first two words spell a board and a side, and no third word spells hands
 abbrev pub LacksHands : List ℕ → Type 0
 LacksHands text = HasBoard text × HasSide text × (HasHands text → ⊥)

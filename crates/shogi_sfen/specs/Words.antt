@@ -17,7 +17,7 @@ abbrev pub has_bytes : List ℕ → Bool
 has_bytes [] = false
 has_bytes (byte ∷ bytes) = true
 
--- the words of a text: its parts between blanks, without empty ones
+-- the parts between blanks, without empty ones
 unfoldable pub words : List ℕ → List (List ℕ)
 words text = filter has_bytes (slice_split is_blank text)
 

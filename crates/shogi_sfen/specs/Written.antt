@@ -10,7 +10,7 @@ use Rattle.shogi_core.specs.Position.{Shogi, HandCounts, count_in_hand}
 use Rattle.shogi_sfen.specs.declared.byte.TheConstants.{ZERO, SPACE, SLASH}
 use Rattle.shogi_sfen.specs.Letters.{letter_of, cased_for, piece_text}
 
--- a run of empty squares as a digit, or nothing if it is 0
+-- a run of empty squares as a digit; nothing for 0
 abbrev pub run_text : ℕ → List ℕ
 run_text run = cond (run == 0) [] ((run + ZERO) ∷ [])
 
@@ -37,14 +37,14 @@ abbrev pub side_text : Color → List ℕ
 side_text Black = codes "b"
 side_text White = codes "w"
 
--- the digits of a count below 100, or nothing if it is 0 or 1
+-- the digits of a count from 2 to 99; nothing below 2
 abbrev pub count_digits : ℕ → List ℕ
 count_digits count =
     cond (nat_lt count 2) []
     (cond (nat_lt count 10) ((count + ZERO) ∷ [])
     ((count / 10 + ZERO) ∷ (count % 10 + ZERO) ∷ []))
 
--- a count in hand: its digits and the letter of the kind, or nothing if it is 0
+-- a count and the letter of its kind; nothing for 0
 abbrev pub held_text : Color → Kind → ℕ → List ℕ
 held_text color kind count =
     cond (count == 0) [] (count_digits count ++ cased_for color (letter_of kind) ∷ [])
@@ -65,11 +65,11 @@ abbrev pub or_hyphen : List ℕ → List ℕ
 or_hyphen [] = codes "-"
 or_hyphen (byte ∷ bytes) = byte ∷ bytes
 
--- both hands, Black's first, or a hyphen if they are empty
+-- both hands, Black's first, or a hyphen
 unfoldable pub hands_text : HandCounts → List ℕ
 hands_text hands = or_hyphen (side_held_text hands Black ++ side_held_text hands White)
 
--- the one text that is written for a position: board, side and hands, with a space between
+-- the one text written: board, side and hands, with a space between
 unfoldable pub position_text : Shogi → List ℕ
 position_text position =
     board_text position.cells

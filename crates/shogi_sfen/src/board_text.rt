@@ -12,10 +12,10 @@ use crate::letter::read_piece;
 use arrayvec::ArrayVec;
 use shogi_core::Piece;
 
-/// The number of squares on a rank.
+/// Squares on a rank.
 pub const RANK_SQUARES: usize = 9;
 
-/// The number of squares on the board.
+/// Squares on the board.
 pub const BOARD_SQUARES: usize = 81;
 
 /// An item of a rank: a number of empty squares, or a piece.
@@ -81,7 +81,7 @@ fn push_item(rank: &mut Rank, item: Option<RankItem>) -> bool
     }
 }
 
-/// The nine cells of a rank, or `None` if the bytes write no rank.
+/// The nine cells of a rank, if the bytes write one.
 #[tactic(auto, unfolding(crate::specs::BoardTexts::rank_of))]
 fn read_rank(part: &[u8]) -> Option<Rank>
     ensures value { rank_of part.now ≡ option_map (λ rank. rank.items) result }
@@ -115,7 +115,7 @@ fn first_slash(text: &[u8]) -> Option<usize>
     text.iter().position(|byte| *byte == SLASH)
 }
 
-/// The number of bytes before the first slash.
+/// The length of the text before the first slash.
 #[tactic(auto, using(crate::proofs::WordLaws::first_or_len))]
 fn part_len(text: &[u8]) -> usize
     ensures value { result ≡ position_or_len is_slash text.now }
@@ -143,7 +143,7 @@ fn skip(text: &[u8], count: usize) -> &[u8]
     rest
 }
 
-/// The cells of nine ranks, or `None` if the bytes write none.
+/// The cells of nine ranks, if the bytes write them.
 fn read_cells(word: &[u8]) -> Option<BoardCells>
     ensures value { squares_of (slice_split is_slash word.now)
         ≡ option_map (λ s. s.items) result }
@@ -185,7 +185,7 @@ fn arrange(squares: &[Option<Piece>]) -> [Option<Piece>; BOARD_SQUARES]
     cells
 }
 
-/// The cells by index that a board's text writes (SFEN, board), or `None` for any other text.
+/// The cells by index of a board's text (SFEN, board), or `None` for any other text.
 #[tactic(auto, unfolding(crate::specs::BoardTexts::board_of))]
 pub fn read_board(word: &[u8]) -> Option<[Option<Piece>; BOARD_SQUARES]>
     ensures { result ≡ board_of word.now }

@@ -10,7 +10,7 @@ use crate::byte::ZERO;
 use crate::letter::read_piece;
 use shogi_core::{Hands, Piece};
 
-/// The value at which a count in hand saturates; no set has as many pieces.
+/// The value at which a count saturates; no set has as many pieces.
 pub const COUNTED_MAX: u8 = u8::MAX;
 
 /// Appends a digit to a count, which saturates at `COUNTED_MAX`; `None` if its first digit is 0.
@@ -35,7 +35,7 @@ fn with_piece(hands: Hands, count: u8, piece: Option<Piece>) -> Option<Hands>
     Some(hands.with(piece.color, kind, held.saturating_add(count)))
 }
 
-/// The hands that items write, each an optional count and a letter.
+/// The hands that items write: each an optional count and a letter.
 fn read_items(word: &[u8]) -> Option<Hands>
     ensures { result ≡ capped_from no_hands None word.now }
 {

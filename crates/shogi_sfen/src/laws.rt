@@ -1,9 +1,8 @@
-//! Laws that tie names in the code to plain values.
+//! Laws of the constants.
 
 ghost use Rattle.shogi_sfen.specs.Characters.{AreCharacters};
 
-/// The byte constants are the characters of USI and SFEN, and a board has 81 squares, nine on a
-/// rank.
+/// The byte constants are the characters of USI and SFEN; a board has 81 squares, nine on a rank.
 pub fn characters()
     ensures { AreCharacters }
 {}

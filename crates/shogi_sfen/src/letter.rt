@@ -24,7 +24,7 @@ pub fn letter_of(kind: Kind) -> u8
     }
 }
 
-/// The kind with this upper-case letter, or `None` for any other byte.
+/// The kind with this upper-case letter, if any.
 #[tactic(auto, unfolding(crate::specs::Letters::kind_named))]
 pub fn read_kind(letter: u8) -> Option<Kind>
     ensures { result ≡ kind_named letter }
@@ -61,7 +61,7 @@ fn letter_of_role(role: Role) -> u8
     }
 }
 
-/// The letter in the side's case: upper for Black, lower for White.
+/// The letter, in upper case for Black and in lower case for White.
 pub fn cased_for(color: Color, letter: u8) -> u8
     requires { letter < LOWER_CASE }
     ensures { result ≡ cased_for color letter }
@@ -104,7 +104,7 @@ fn is_named(plus: bool, letter: u8, piece: Piece) -> bool
     is_promoted(piece.role) == plus && piece_letter(piece) == letter
 }
 
-/// The side that writes the letter in this case.
+/// The side by the letter's case.
 fn color_of_letter(letter: u8) -> Color
     ensures { result ≡ color_of_letter letter }
 {
@@ -122,8 +122,8 @@ fn read_role(plus: bool, letter: u8, color: Color) -> Option<Role>
     ROLES.iter().copied().find(|role| is_named(plus, letter, Piece { color, role: *role }))
 }
 
-/// The piece that the letter names, after a plus or not: upper case is Black's, lower case White's.
-/// `None` if it names no piece.
+/// The piece that the letter names, after a plus or not, if any: upper case is Black's, lower case
+/// White's.
 #[tactic(auto, unfolding(crate::specs::Letters::piece_named))]
 pub fn read_piece(plus: bool, letter: u8) -> Option<Piece>
     ensures { result ≡ piece_named plus letter }

@@ -9,7 +9,7 @@ use crate::letter::{letter_of, read_kind};
 use arrayvec::ArrayVec;
 use shogi_core::{Kind, Move, Square};
 
-/// The square of a digit for its file and a letter from `a` to `i` for its rank.
+/// The square of a digit and a letter from `a` to `i`.
 fn read_square(file: u8, rank: u8) -> Option<Square>
     ensures { result ≡ square_read file rank }
 {
@@ -42,7 +42,7 @@ fn drop_move(kind: Option<Kind>, to: Option<Square>) -> Option<Move>
     }
 }
 
-/// The move of four bytes: a drop if the second is a star, else a move on the board.
+/// The move of four bytes: a drop if the second is a star, else a board move.
 fn read_short(bytes: &[u8]) -> Option<Move>
     requires { length bytes.now ≡ 4 }
     ensures { result ≡ short_read bytes.now }
