@@ -48,7 +48,7 @@ IsCovered-raise f all rest alpha best_value v b m h e lt = record {
   reached = (h.among m (or_left _ _ (eq-eqb m m refl)), e);
 }
 
--- at the end the best move is the first of greatest worth
+-- at the end the best move is the first of the greatest worth
 pub ended_exact : (otherwise : ℤ) (f : ℕ → ℤ) (all : List ℕ) (alpha best_value : ℤ) (b : ℕ) → IsRising all → IsCovered f all [] alpha best_value (Some b) → greatest_or otherwise f all ≡ best_value
 ended_exact otherwise f all alpha best_value b r h =
     let up : greatest_or otherwise f all ≤ℤ best_value = greatest_or-least otherwise f all b best_value h.reached.0 (λ n i. let at_threshold : f n ≤ℤ move_alpha best_value (Some b) n = h.below n i refl in let le : move_alpha best_value (Some b) n ≤ℤ best_value = move_alpha-best_value best_value (Some b) n in omega (arith, ints)) in
@@ -61,7 +61,7 @@ ended_first f all alpha best_value b r h =
     find_first (λ m. int_eq (f m) best_value) all b r h.reached.0 (same_int_eq _ _ h.reached.1)
     (λ n i lt. less_int_eq _ _ (below_lesser (f n) best_value b n lt (h.below n i refl)))
 
--- at the end without a best move, no move is worth more than alpha
+-- at the end without a best move, none is worth more than alpha
 pub ended_low : (otherwise : ℤ) (f : ℕ → ℤ) (m : ℕ) (ms : List ℕ) (alpha best_value : ℤ) → IsCovered f (m ∷ ms) [] alpha best_value None → greatest_or otherwise f (m ∷ ms) ≤ℤ best_value
 ended_low otherwise f m ms alpha best_value h = greatest_or-least otherwise f (m ∷ ms) m best_value (or_left _ _ (eq-eqb m m refl)) (λ n i. h.below n i refl)
 

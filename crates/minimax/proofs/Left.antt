@@ -22,7 +22,7 @@ left_exact p eval d alpha best_value b h r c =
     let v : value p eval d ≡ best_value = value-above p eval d h ∙ ended_exact (lost_value d) (worth p eval (d - 1)) (legal_codes p) alpha best_value b r c in
     (v, best_code-above p eval d h ∙ ap (λ (w : ℤ). find (λ m. int_eq (worth p eval (d - 1) m) w) (legal_codes p)) v ∙ ended_first (worth p eval (d - 1)) (legal_codes p) alpha best_value b r c)
 
--- the result of a node with a best move, which is that of its code
+-- the result of a node with a best move
 pub found_best : (p : Shogi) (eval : Eval) (d : ℕ) (alpha best_value : ℤ) (todo : List ℕ) (m : Move) (best_so_far : Option Move) → 0 < d → IsRising (legal_codes p) → move_of (code_of m) ≡ Some m → todo ≡ [] → best_so_far ≡ Some m → IsCovered (worth p eval (d - 1)) (legal_codes p) todo alpha best_value (code_at best_so_far) → IsFound p eval d best_value (Some m)
 found_best p eval d alpha best_value todo m best_so_far h r back e q c =
     let l : (value p eval d ≡ best_value) × (best_code p eval d ≡ Some (code_of m)) = left_exact p eval d alpha best_value (code_of m) h r (at_end _ _ _ _ _ _ _ e (ap code_at q) c) in
@@ -54,6 +54,6 @@ no_moves : (ms : List ℕ) → ((ms ≡ [] → ⊥) → ⊥) → ms ≡ []
 no_moves [] nn = refl
 no_moves (m ∷ ms) nn = absurd (nn (λ z. cc))
 
--- the result of a node on which a test finds no legal move
+-- the result of a node that a test finds without a legal move
 pub found_lost : (p : Shogi) (eval : Eval) (d : ℕ) → 0 < d → ((legal_codes p ≡ [] → ⊥) → ⊥) → IsFound p eval d (lost_value d) None
 found_lost p eval d h nn = left_lost p eval d h (no_moves (legal_codes p) nn)

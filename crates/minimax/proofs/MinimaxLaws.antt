@@ -56,7 +56,7 @@ pub tree_size-suc : (p : Shogi) (d : ℕ) → tree_size p (suc d) ≡ 1 + sum_by
 unfolding tree_size
 tree_size-suc p d = refl
 
--- a value with d plies left is at least that of a loss, and below that of a win at once
+-- a value with d plies left lies between a loss and a win at once
 pub record Within (d : ℕ) (v : ℤ) : Type 0 where
   pub least : lost_value d ≤ℤ v
   pub most : v <ℤ (MATE +ℤ pos d)
@@ -65,7 +65,7 @@ leaf_within : (ms : List ℕ) (v : ℤ) → (pos 0 -ℤ pos POINTS_MAX) ≤ℤ v
 leaf_within [] v l h = record { least = omega (arith, ints); most = omega (arith, ints) }
 leaf_within (m ∷ ms) v l h = record { least = omega (arith, ints); most = omega (arith, ints) }
 
--- the worth of a move with d plies after it is between a loss and a win
+-- a move's worth with d plies after it lies within these bounds
 pub record WorthWithin (d : ℕ) (w : ℤ) : Type 0 where
   pub least : lost_value d ≤ℤ w
   pub most : w ≤ℤ (MATE +ℤ pos d)
@@ -82,7 +82,7 @@ greatest_within d f (m ∷ ms) h =
 negated_within : (d : ℕ) (v : ℤ) → Within d v → WorthWithin d (negated v)
 negated_within d v h = record { least = omega (arith, ints); most = omega (arith, ints) }
 
--- the value after a move that ends a line is within bounds
+-- the value after a move that ends a line
 ended_within : (p : Shogi) (eval : Eval) (m : ℕ) → IsValid p → is_in m (legal_codes p) ≡ true → Within 0 (ended p eval m)
 ended_within p eval m v i =
     let b : IsBounded (leaf_after p eval m) = left_bounded p eval m (after_valid p m v i) in
@@ -96,11 +96,11 @@ pub value_within : (d : ℕ) (p : Shogi) (eval : Eval) → IsValid p → Within 
 value_within zero p eval v = rw value-leaf (leaf_within (legal_codes p) (material_of p eval) (material_bounds p eval v).0 (material_bounds p eval v).1)
 value_within (suc d) p eval v = rw value-suc (greatest_within d (worth p eval d) (legal_codes p) (λ m i. worth_within d p eval m v i (λ q w. value_within d q eval w)))
 
--- the worth of a legal move is within bounds
+-- the worth of a legal move lies within bounds
 pub worth_bounds : (d : ℕ) (p : Shogi) (eval : Eval) (m : ℕ) → IsValid p → is_in m (legal_codes p) ≡ true → WorthWithin d (worth p eval d m)
 worth_bounds d p eval m v i = worth_within d p eval m v i (λ q w. value_within d q eval w)
 
--- value and best move at a depth d of at least 1, from children of depth d - 1
+-- value, best move and tree size at a depth d of at least 1, from children of depth d - 1
 pub value-above : (p : Shogi) (eval : Eval) (d : ℕ) → 0 < d → value p eval d ≡ greatest_or (lost_value d) (worth p eval (d - 1)) (legal_codes p)
 value-above p eval zero h = absurd (omega arith)
 value-above p eval (suc d) h = let e : suc d - 1 ≡ d = omega arith in rw e (value-suc p eval d)
@@ -137,7 +137,7 @@ pub tree_size-positive : (p : Shogi) (d : ℕ) → 1 ≤ tree_size p d
 tree_size-positive p zero = rw tree_size-leaf (omega arith)
 tree_size-positive p (suc d) = rw tree_size-suc (omega arith)
 
--- the worth of a move from its child's value, if plies are left
+-- the worth of a move by its child's value, if plies are left
 pub worth_from : (p : Shogi) (eval : Eval) (d m : ℕ) (q : Shogi) (r : ℤ) → 0 < d → r ≡ value q eval d → q ≡ after_code p m → worth p eval d m ≡ pos 0 -ℤ r
 worth_from p eval zero m q r h e a = absurd (omega arith)
 worth_from p eval (suc d) m q r h e a = ap (λ (x : Shogi). pos 0 -ℤ value x eval (suc d)) (sym a) ∙ ap (λ (x : ℤ). pos 0 -ℤ x) (sym e)
@@ -146,16 +146,16 @@ pub worth_deep : (p : Shogi) (eval : Eval) (d m : ℕ) → 0 < d → worth p eva
 worth_deep p eval zero m h = absurd (omega arith)
 worth_deep p eval (suc d) m h = refl
 
--- without settled exchanges, the worth of a move that ends a line is the child's value negated
+-- without exchanges, the worth of a move that ends a line is the child's value negated
 leaf_worth : (p : Shogi) (eval : Eval) (m : ℕ) (ms : List ℕ) → resolves_captures eval ≡ false → if_no_move_else (lost_value 0) (leaf_after p eval m) ms ≡ if_no_move_else (lost_value 0) (material_of (after_code p m) eval) ms
 leaf_worth p eval m ms h = ap (λ (v : ℤ). if_no_move_else (lost_value 0) v ms) (left_plain p eval m h)
 
--- without settled exchanges, the worth of a move at any depth is the child's value negated
+-- without exchanges, the worth of a move at any depth is the child's value negated
 pub worth_plain : (p : Shogi) (eval : Eval) (d m : ℕ) → resolves_captures eval ≡ false → worth p eval d m ≡ negated (value (after_code p m) eval d)
 worth_plain p eval zero m h = ap negated (leaf_worth p eval m (legal_codes (after_code p m)) h ∙ sym (value-leaf (after_code p m) eval))
 worth_plain p eval (suc d) m h = refl
 
--- the worth of a move that ends a line: at most its score, unless it mates
+-- a move that ends a line is worth at most its score, unless it mates
 pub ended_none : (p : Shogi) (eval : Eval) (m : ℕ) → legal_codes (after_code p m) ≡ [] → ended p eval m ≡ lost_value 0
 ended_none p eval m none = ap (if_no_move_else (lost_value 0) (leaf_after p eval m)) none
 
@@ -166,7 +166,7 @@ ended_at p eval m (c ∷ cs) e ne = ap (if_no_move_else (lost_value 0) (leaf_aft
 pub ended_some : (p : Shogi) (eval : Eval) (m : ℕ) → (legal_codes (after_code p m) ≡ [] → ⊥) → ended p eval m ≡ leaf_after p eval m
 ended_some p eval m ne = ended_at p eval m (legal_codes (after_code p m)) refl ne
 
--- a move worth v bounds the position's value from below
+-- the position is worth at least what a move is
 pub cut : (p : Shogi) (eval : Eval) (d m : ℕ) (v : ℤ) → 0 < d → is_in m (legal_codes p) ≡ true → v ≤ℤ worth p eval (d - 1) m → v ≤ℤ value p eval d
 cut p eval d m v h i l =
     let e : value p eval d ≡ greatest_or (lost_value d) (worth p eval (d - 1)) (legal_codes p) = value-above p eval d h in

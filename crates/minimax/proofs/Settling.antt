@@ -89,7 +89,7 @@ unfolding most_settled
 best_least p e n zero = settled_least p e 0 n
 best_least p e n (suc s) = let here : material_of p e ≤ℤ settled p e (suc s) n = settled_least p e (suc s) n in omega (arith, ints, clamps, here)
 
--- the points after a move that ends a line are within the bounds of material
+-- a move that ends a line leaves points within the bounds of material
 pub left_bounded : (p : Shogi) (e : Eval) (code : ℕ) → IsValid (after_code p code) → IsBounded (leaf_after p e code)
 left_bounded p Plain code v = bounded_material (after_code p code) Plain v
 left_bounded p Hand code v = bounded_material (after_code p code) Hand v
@@ -113,7 +113,7 @@ left_quiet p Exchange code q =
     cond_both (is_quiet p (move_of code)) (material_of (after_code p code) Exchange) (best_settled (after_code p code) Exchange) (λ (v : ℤ). v ≡ material_of (after_code p code) Exchange)
     (λ _. refl) (λ loud. absurd (cc))
 
--- if the evaluation settles no exchange, after any move the opponent has just its material
+-- without exchanges, the opponent always has just its material
 pub left_plain : (p : Shogi) (e : Eval) (code : ℕ) → resolves_captures e ≡ false → leaf_after p e code ≡ material_of (after_code p code) e
 left_plain p Plain code q = refl
 left_plain p Hand code q = refl

@@ -131,7 +131,7 @@ fn has_sniper(direction: Direction, square: Square, snipers: Squares) -> bool
     ray(direction, square).bits & snipers.bits != 0
 }
 
-/// A direction from which one of the snipers slides to the square, if any.
+/// A direction against which one of the snipers slides to the square, if any.
 fn attacking_direction(
     board: &Board,
     by: Color,

@@ -82,7 +82,7 @@ captures_max = 40
 abbrev pub best_settled : Shogi → Eval → ℤ
 best_settled p e = most_settled p e captures_max 80
 
--- the points of the side to move after the move that ends a line: its material, or under Exchange, if the move was not quiet, those after its best exchange
+-- the points of the side to move after the move that ends a line: its material, or, under Exchange after a move that is not quiet, those after its best exchange
 abbrev pub leaf_after : Shogi → Eval → ℕ → ℤ
 leaf_after p Plain code = material_of (after_code p code) Plain
 leaf_after p Hand code = material_of (after_code p code) Hand

@@ -57,7 +57,7 @@ changed : (b : Bool) (m n : ℕ) → cond b (m + n) m ≡ m + cond b n 0
 changed true m n = refl
 changed false m n = omega arith
 
--- their counts, for hands with n more of a kind
+-- counts of hands with n more of a kind
 pub held-added : (hands : HandCounts) (color other : Color) (kind third : Kind) (n : ℕ) → length hands ≡ 14
     → count_in_hand (added hands color kind n) other third ≡ count_in_hand hands other third + cond (is_same_color color other && kind_number kind == kind_number third) n 0
 held-added hands color other kind third n len =

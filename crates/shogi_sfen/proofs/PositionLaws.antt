@@ -100,7 +100,7 @@ pub gives_len : (text rest : List ℕ) (o : Option (Bor (List ℕ))) → GivesWo
 gives_len text rest None g = let e : length rest ≡ length text = ap length g.1 in omega arith
 gives_len text rest (Some word) g = let e : length rest ≡ length (after_word text) = ap length g.1 in let l : length (after_word text) ≤ length text = after_word-len text in omega arith
 
--- a word that was read was there
+-- a word read was there
 pub gives_after : {A : Type 0} (text rest : List ℕ) (o : Option (Bor (List ℕ))) (f : List ℕ → Option A) (a : A) → GivesWord text o rest → Some a ≡ option_and_then f (option_copied o) → rest ≡ after_word text
 gives_after text rest None f a g e = cc
 gives_after text rest (Some word) f a g e = g.1
@@ -109,7 +109,7 @@ pub gives_after_hands : (text rest : List ℕ) (o : Option (Bor (List ℕ))) (ha
 gives_after_hands text rest None hands g e = cc
 gives_after_hands text rest (Some word) hands g e = g.1
 
--- the end after three words and a number
+-- three words and a number, then the end
 pub ends_at : (text r1 r2 r3 after : List ℕ) → r1 ≡ after_word text → r2 ≡ after_word r1 → r3 ≡ after_word r2 → after ≡ past_number r3 → length text - length after ≡ end_of text
 ends_at text r1 r2 r3 after a b c d =
     ap (λ (t : List ℕ). length text - length t) (d ∙ ap past_number (c ∙ (ap after_word b ∙ ap (λ (t : List ℕ). after_word (after_word t)) a)))

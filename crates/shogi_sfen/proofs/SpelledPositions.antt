@@ -60,7 +60,7 @@ hands_word-read : (o : Option (List ℕ)) (hands : HandCounts) → IsSomeAnd o (
 hands_word-read None hands h = absurd h
 hands_word-read (Some text) hands h = hands_of-spelled text hands h
 
--- a word that spells this thing spells some thing
+-- a word that spells some thing
 some_with : {A : Type 0} (o : Option (List ℕ)) (P : List ℕ → A → Type 0) (a : A) → IsSomeAnd o (λ text. P text a) → IsSomeAnd o (λ text. (x : A) × P text x)
 some_with None P a h = h
 some_with (Some text) P a h = (a, h)
@@ -91,7 +91,7 @@ judged-err : (o : Option PositionFault) (p : Shogi) (end : ℕ) (fault : Positio
 judged-err None p end fault e = cc
 judged-err (Some f) p end fault e = cc
 
--- the parts that the first three words are read as
+-- what the first three words are read as
 abbrev board_read : List ℕ → Option Cells
 board_read text = option_and_then board_of (slice_get (words text) 0)
 

@@ -16,7 +16,7 @@ use Rattle.shogi_sfen.specs.MoveTexts.{text_of, is_text_of, is_text_of_code, mov
 use Rattle.shogi_sfen.specs.Reading.{move_read}
 use Rattle.shogi_sfen.proofs.Texts.{move_read-board, move_read-drop, move_read-some, IsMoveText, IsOnBoard}
 
--- `find` gives the only number of a range that passes
+-- `find` gives the only passing number of a range
 find-one : (p : ℕ → Bool) (n a c : ℕ) → a ≤ c → c < a + n → p c ≡ true → ((k : ℕ) → k < a + n → p k ≡ true → k ≡ c) → find p (range_with_len a n) ≡ Some c
 find-one p zero a c low high here only = absurd (omega arith)
 find-one p (suc n) a c low high here only = elim (cases_Bool (p a)) [
@@ -31,7 +31,7 @@ find-none : (p : ℕ → Bool) (n a : ℕ) → ((k : ℕ) → k < a + n → p k 
 find-none p zero a h = refl
 find-none p (suc n) a h = cond-false (p a) _ _ (h a (omega arith)) ∙ find-none p n (a + 1) (λ k below. h k (omega arith))
 
--- a code below 13,689 is that of its move, which is on the board
+-- a code below 13,689 is that of a move
 record HasMove (code : ℕ) : Type 0 where
   move : Move
   move_is : move_of code ≡ Some move

@@ -107,14 +107,14 @@ abbrev pub HasHands : List ℕ → Type 0
 HasHands text =
     IsSomeAnd (slice_get (words text) 2) (λ word. (hands : HandCounts) × SpellsHands word hands)
 
--- no first word spells a board
+-- the first word is missing or spells no board
 abbrev pub LacksBoard : List ℕ → Type 0
 LacksBoard text = HasBoard text → ⊥
 
--- the first word spells a board, and no second word spells a side
+-- the first word spells a board, and the second is missing or spells no side
 abbrev pub LacksSide : List ℕ → Type 0
 LacksSide text = HasBoard text × (HasSide text → ⊥)
 
--- the first two words spell a board and a side, and no third word spells hands
+-- the first two words spell a board and a side, and the third is missing or spells no hands
 abbrev pub LacksHands : List ℕ → Type 0
 LacksHands text = HasBoard text × HasSide text × (HasHands text → ⊥)
