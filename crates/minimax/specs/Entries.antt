@@ -1,4 +1,4 @@
--- Which entries end a question (own choice).
+-- Which entries answer a search (own choice).
 use Rattle.std.specs.Prelude.{ℤ, ◌≤ℤ◌, Option, Some, None}
 use Rattle.shogi_core.specs.declared.moves.Move.{Move}
 use Rattle.minimax.specs.declared.entry.Entry.{Entry}

@@ -96,7 +96,7 @@ abbrev pub then_pv_cost : (Shogi → ℕ) → Shogi → Option Move → ℕ
 then_pv_cost rest p None = 0
 then_pv_cost rest p (Some m) = rest (after p m)
 
--- the most search steps for the pv of this depth if each of its positions is searched anew: four for each node of the trees along it, one to enter it and one to leave it, both done twice
+-- the most search steps for the pv of this depth if each of its positions is searched anew: four for each node of the trees along it, to enter and leave it twice
 unfoldable pub pv_cost : Shogi → Eval → ℕ → ℕ
 pv_cost p e zero = 0
 pv_cost p e (suc d) =

@@ -37,7 +37,7 @@ one_of test p (d ∷ ds) e h = elim (or_cases _ _ e) [
   | inr later ↦ or_right (test d) _ (one_of test p ds later h)
 ]
 
--- what passes for an offset of one list passes for one of the list that contains it
+-- a test that passes for an offset passes for one of each list that contains it
 pub list_any_among : (test : Offset → Bool) (g : Offset → Offset) (os ds : List Offset) → list_all (λ o. list_any (same_way (g o)) ds) os ≡ true → list_any (λ o. test (g o)) os ≡ true → list_any test ds ≡ true
 list_any_among test g [] ds each e = absurd (cc)
 list_any_among test g (o ∷ os) ds each e =
@@ -53,7 +53,7 @@ slides_around Black _ = refl
 slides_around White King = refl
 slides_around White _ = refl
 
--- a weaker test passes where a stronger one does
+-- a weaker test passes if a stronger one does
 pub list_any_kept : (s t : Offset → Bool) (os : List Offset) → ((o : Offset) → s o ≡ true → t o ≡ true) → list_any s os ≡ true → list_any t os ≡ true
 list_any_kept s t [] h e = e
 list_any_kept s t (o ∷ os) h e = elim (or_cases _ _ e) [
@@ -83,7 +83,7 @@ module _ (old new : Cells) (Left : ℕ → Type 0) (opened : (x : ℕ) → is_no
         | inr left ↦ inr (x, at, left)
       ]
 
-  -- the squares of a slide were empty, or one that the move left had a slide to the end
+  -- the squares of a slide were empty, or a vacated one had a slide to the end
   behind : (o : Offset) (a n s d : ℕ) → n < 8 → away (n + 1) o a ≡ Some s → all_below n (is_step_empty new o a) ≡ true
       → ((x : ℕ) × Left x × (slides old o x s ≡ true)) ⊎ ((i : ℕ) → i < n → n ≤ i + d → is_step_empty old o a i ≡ true)
   behind o a n s zero small there clear = inr (λ i l g. absurd (omega arith))
@@ -147,7 +147,7 @@ module _ (old new : Cells) (Left : ℕ → Type 0) (opened : (x : ℕ) → is_no
     | inr slide ↦ or_right (has_step piece a s) (has_slide old piece a s) (has_slide_was piece a s free slide)
   ]
 
-  -- an unattacked square stays so, if new pieces do not reach it and no vacated square is on an open line with it
+  -- an unattacked square stays so if new pieces do not reach it and it has no open line to a vacated square
   pub attacked_was_but : (color : Color) (s : ℕ) → ((a : ℕ) → is_piece_of color (piece_at new a) ≡ true → (piece_at old a ≡ piece_at new a) ⊎ (reaches new a s ≡ false))
       → ((x : ℕ) → Left x → are_lined old x s ≡ false) → is_attacked old color s ≡ false → is_attacked new color s ≡ false
   unfolding reaches
@@ -172,7 +172,7 @@ module _ (old new : Cells) (Left : ℕ → Type 0) (opened : (x : ℕ) → is_no
       (attacked_was_but (opponent_of color) k (λ a own. elim (kept a own) [ inl same ↦ inl same | inr short ↦ inr (short k l parts.0) ])
       (λ x left. false_from_ne_true _ (λ lined. both_ways (is_line_to_king old color x k) (some_below_not 81 (is_line_to_king old color x) k (free x left) l) (and_from _ _ king lined))) shut) parts.1))
 
-  -- an unattacked square stays so, if no piece is new and no vacated square is on an open line with it
+  -- an unattacked square stays so if no piece is new and it has no open line to a vacated square
   pub attacked_was : (color : Color) (s : ℕ) → ((a : ℕ) → is_piece_of color (piece_at new a) ≡ true → piece_at old a ≡ piece_at new a)
       → ((x : ℕ) → Left x → are_lined old x s ≡ false) → is_attacked old color s ≡ false → is_attacked new color s ≡ false
   attacked_was color s kept = attacked_was_but color s (λ a own. inl (kept a own))

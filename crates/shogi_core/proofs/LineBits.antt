@@ -191,7 +191,7 @@ module _ (cells : Cells) (o : Offset) (a occ : ℕ) (occupied : (n : ℕ) → n 
     pub highest_reached : falls o → ((n : ℕ) → has_bit (bit_and (ray_of o a) occ) n ≡ true → n ≤ f) → slides cells o a f ≡ true
     highest_reached down greatest = reached (λ m n x ef ex e. nearer_down o a f x m n down ef ex (greatest x e)) (λ i j x ei ej. nearer_down o a x x i j down ei ej (omega arith))
 
-  -- the highest bit of a line and bit 0 together, from which the line is cut
+  -- a line is cut at the highest of its pieces' bits and bit 0
   pub falling_bits : falls o → ray_of o 0 ≡ 0 → (f : ℕ) → f < 81 → has_bit (bit_or (bit_and (ray_of o a) occ) 1) f ≡ true → ((n : ℕ) → has_bit (bit_or (bit_and (ray_of o a) occ) 1) n ≡ true → n ≤ f)
       → (b : ℕ) → b < 81 → has_bit (bit_and (ray_of o a) (2 ^ 128 - 1 - ray_of o f)) b ≡ slides cells o a b
   falling_bits down end f low set greatest b h = elim (cases_Bool (has_bit (bit_and (ray_of o a) occ) f)) [

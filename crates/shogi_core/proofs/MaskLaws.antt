@@ -37,7 +37,7 @@ module _ (test : Option Piece → Bool) where
   unfolding places_of
   has_bit-places cells n h = has_bit-mask 81 (passes test cells) n h
 
-  -- a mask with one bit set or cleared is the mask of the cells after the write
+  -- a mask with one bit written is that of the written cells
   pub places_put : (m s : ℕ) (cells : Cells) (piece : Option Piece) → length cells ≡ 81 → s < 81 → m < 2 ^ 128
       → ((n : ℕ) → has_bit m n ≡ cond (n == s) (test piece) (has_bit (places_of test cells) n)) → m ≡ places_of test (set cells s piece)
   places_put m s cells piece len h fits bits =

@@ -146,7 +146,7 @@ module _ (cells : Cells) (o : Offset) (a : ℕ) where
             let clear : is_step_empty cells o a n ≡ true = all_below_at which.0 (is_step_empty cells o a) n parts.1 (omega arith) in
             both_ways (is_none (piece_at cells f)) taken (ap (is_empty cells) (sym at_first) ∙ clear))))
 
-  -- with rising indexes, a slide reaches the squares of the line with no piece of lower index on it
+  -- with rising indexes, a slide reaches the squares before which no piece is on the line
   module _ (up : rises o) (taken : ℕ → Bool)
       (pieces : (x : ℕ) → is_on_ray o a x ≡ true → taken x ≡ not (is_none (piece_at cells x)))
       (on_line : (x : ℕ) → taken x ≡ true → is_on_ray o a x ≡ true) where

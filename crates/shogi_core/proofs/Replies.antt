@@ -12,7 +12,7 @@ use Rattle.shogi_core.proofs.Below.{some_below_not}
 use Rattle.shogi_core.proofs.Discovered.{check_was_but, reach_was}
 
 module _ (old new : Cells) (Left : ℕ → Type 0) (opened : (x : ℕ) → is_none (piece_at new x) ≡ true → (is_none (piece_at old x) ≡ true) ⊎ Left x) where
-  -- a move gives no check if its piece reaches no king and no vacated square is on an open line with one
+  -- a move gives no check if its piece reaches no king and no king has an open line to a vacated square
   pub no_check : (color : Color) (to : ℕ) → to < 81
       → ((a : ℕ) → is_piece_of (opponent_of color) (piece_at new a) ≡ true → (piece_at old a ≡ piece_at new a) ⊎ (a ≡ to))
       → ((k : ℕ) → is_king color (piece_at new k) ≡ true → piece_at old k ≡ piece_at new k)

@@ -93,7 +93,7 @@ module _ (old new : Cells) (n : ℕ) (opened : (x : ℕ) → is_none (piece_at n
         ]
       ]
 
-  -- a move gives no check if its origin is on an open line with no sniper and the piece on `to` reaches no king
+  -- a move gives no check if no sniper has an open line to its origin and the piece on `to` reaches no king
   pub left_unpinned : (color : Color) (to : ℕ)
       → ((x : ℕ) → is_piece_of (opponent_of color) (piece_at new x) ≡ true → (piece_at old x ≡ piece_at new x) ⊎ (x ≡ to))
       → ((k : ℕ) → is_king color (piece_at new k) ≡ true → piece_at old k ≡ piece_at new k)

@@ -40,7 +40,7 @@ is_sniper cells color square from =
 abbrev pub HasNoSniper : ℕ → ℕ → ℕ → Type 0
 HasNoSniper direction square snipers = bit_and (ray_of (direction_at direction) square) snipers ≡ 0
 
--- the king of the side stands on the square, and the piece on `from` is a sniper of the opponent
+-- the king of the side is on the square, and the piece on `from` is an opponent's sniper of it
 abbrev pub is_sniper_of_king : Cells → Color → ℕ → ℕ → Bool
 is_sniper_of_king cells color from square =
     is_king color (piece_at cells square) && is_sniper cells (opponent_of color) square from
@@ -141,7 +141,7 @@ abbrev pub FindsOccupied : ℕ → ℕ → ℕ → Option ℕ → Type 0
 FindsOccupied occupied direction from found =
     (cells : Cells) → AreOccupied occupied cells → FindsPiece cells direction from found
 
--- the piece on `from` is of the side and alone shields the square from the opponent's sniper on `sniper`, in the direction
+-- the piece on `from` is of the side and alone shields the square from the opponent's sniper in the direction
 abbrev pub is_pinned_by : Cells → Color → ℕ → Offset → ℕ → ℕ → Bool
 is_pinned_by cells color square o from sniper =
     is_piece_of color (piece_at cells from) && is_sniper cells (opponent_of color) square sniper

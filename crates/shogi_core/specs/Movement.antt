@@ -12,7 +12,7 @@ use Rattle.shogi_core.specs.declared.offset.Offset.{Offset}
 
 -- `some_below n f`: f is true of some number less than n; `all_below n f`: of each number less than n
 
--- what stands on each of some squares; on a board by the index of the square, file by file: 1a is 0, 1b is 1, 2a is 9
+-- the cells of some squares, on a board by index, file by file: 1a is 0, 1b is 1, 2a is 9
 abbrev pub Cells : Type 0
 Cells = List (Option Piece)
 
@@ -20,7 +20,7 @@ Cells = List (Option Piece)
 abbrev pub offset_by : ℤ → ℤ → Offset
 offset_by file rank = record { file = file; rank = rank }
 
--- one square, as Black sees the board: up towards rank 1, and left towards file 9 (`negsuc 0` is -1)
+-- one square, as Black sees the board: up is towards rank 1, left towards file 9 (`negsuc 0` is -1)
 abbrev pub up : Offset
 up = offset_by (pos 0) (negsuc 0)
 
@@ -94,7 +94,7 @@ slides_of Rook = straight
 slides_of Dragon = straight
 slides_of _ = []
 
--- the square at a file and a rank, each counted from 0, if there is one
+-- the square at a file and a rank, each counted from 0, if any
 abbrev pub square_at : ℤ → ℤ → Option ℕ
 square_at (pos file) (pos rank) =
     cond (nat_lt file 9 && nat_lt rank 9) (Some (file * 9 + rank)) None
@@ -130,11 +130,11 @@ abbrev pub is_empty : Cells → Option ℕ → Bool
 is_empty cells (Some square) = is_none (piece_at cells square)
 is_empty cells None = false
 
--- the square k + 1 steps away is empty; with k from 0 on, these are the squares of a slide in order
+-- the square k + 1 steps away is empty; from k = 0 on, these are the squares of a slide
 abbrev pub is_step_empty : Cells → Offset → ℕ → ℕ → Bool
 is_step_empty cells offset from k = is_empty cells (away (k + 1) offset from)
 
--- a slide of n + 1 steps in the direction leads from `from` to `to`, and the n squares between are empty
+-- a slide of n + 1 steps in the direction leads from `from` to `to` over n empty squares
 abbrev pub slides_across : Cells → Offset → ℕ → ℕ → ℕ → Bool
 slides_across cells offset from to n =
     leads (n + 1) offset from to && all_below n (is_step_empty cells offset from)
@@ -153,7 +153,7 @@ abbrev pub is_slide : Cells → Color → List Offset → ℕ → ℕ → Bool
 is_slide cells color offsets from to =
     list_any (λ offset. slides cells (for_side color offset) from to) offsets
 
--- the mask has exactly the squares that a free slide of either side in one of the directions reaches
+-- the mask has exactly the squares that a free slide of either side reaches in the directions
 abbrev pub HasSlides : ℕ → Cells → List Offset → ℕ → Type 0
 HasSlides m cells offsets from = (color : Color) → HasBits m (is_slide cells color offsets from)
 

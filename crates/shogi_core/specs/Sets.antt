@@ -1,4 +1,4 @@
--- Sets of squares, gone through one by one by calls that answer for each (own choice).
+-- Operations on sets of squares, by what a call answers for each square (own choice).
 use Rattle.std.specs.Prelude.{ℕ, ◌≡◌, ◌<◌, ◌≤◌, ◌==◌, ◌&&◌, not, Bool, true, false}
 use Rattle.shogi_core.specs.declared.squares.Squares.{Squares}
 use Rattle.shogi_core.specs.Bits.{has_bit}

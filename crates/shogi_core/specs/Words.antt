@@ -17,7 +17,7 @@ abbrev pub cell_number : Option Piece → ℕ
 cell_number None = 0
 cell_number (Some piece) = piece_number piece.color piece.role
 
--- the number with these digits in base 32, lowest first; a cell's number is at most 28, and twelve digits of five bits fit in 64 bits
+-- the number with these digits in base 32, lowest first: a cell's number is at most 28, and twelve digits of five bits fit in 64
 unfoldable pub number_in_base_32 : List ℕ → ℕ
 number_in_base_32 [] = 0
 number_in_base_32 (digit ∷ digits) = digit + 32 * number_in_base_32 digits

@@ -282,7 +282,7 @@ fn slider_check_or_pin(
 }
 
 /// The squares of pieces of the side that alone shield the square from a sniper, or `None` if a
-/// sniper already slides to the square.
+/// sniper slides to it.
 fn pinned_to(board: &Board, side: Color, square: Square, snipers: Squares) -> Option<Squares>
     requires snipers { HasBits snipers.bits (is_sniper board.now (opponent_of side) square) }
     ensures shot { IsNone result → slider_attacks board.now (opponent_of side) square ≡ true }
@@ -403,8 +403,8 @@ impl Board {
         false
     }
 
-    /// If the side is in check: the squares to which a move, unless it moves a king, must go to
-    /// answer it: that of one checking piece and those on its way. Empty without a check.
+    /// If the side is in check: the squares to which a move of another piece than a king must go to
+    /// answer it. They are that of one checking piece and those on its way. Empty without a check.
     #[tactic(auto, using(crate::proofs::SeenLaws::open_kings), unfolding(crate::specs::Attack::in_check))]
     pub fn evasion_squares(&self, side: Color) -> Squares
         ensures stays { in_check self.now side ≡ true → StaysInCheck result.bits self.now side }

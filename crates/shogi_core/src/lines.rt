@@ -43,7 +43,7 @@ pub fn falling_squares(board: &Board, direction: Direction, from: Square) -> Squ
 {
     direction.reveal_invariant();
     let line = ray(direction, from).bits;
-    // Bit 0 stands in for an empty line: no line with falling indexes leads on from square 0.
+    // Bit 0 stands in for an empty line, since no line with falling indexes leads on from square 0.
     let first = highest(line & board.occupied().bits | 1);
     Squares {
         bits: line & !ray(direction, Square::of_index(first)).bits,

@@ -1,7 +1,6 @@
 //! The table that `rays` reads.
 
-/// For each direction by number, and in it for each square by index: the squares on the line from
-/// it.
+/// The squares on the line from each square, by direction and index.
 pub const RAYS: [u128; 648] = [
     510,
     508,

@@ -195,8 +195,7 @@ pub fn pawn_files(p: &Position, side: Color) -> Squares
     steppers.union(|square| pawn_file(p, side, square))
 }
 
-// For each file the squares at most two files away, and for each rank those at most four ranks
-// away.
+// The squares at most two files from each file, and at most four ranks from each rank.
 const WIDE_FILES: [u128; 9] = [
     134217727,
     68719476735,

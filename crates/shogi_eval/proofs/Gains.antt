@@ -260,7 +260,7 @@ material_after_drop p eval kind to v t l =
     let twice : points_of (after p (Drop kind to)) eval (opponent_of (opponent_of p.side)) ≡ points_of (after p (Drop kind to)) eval p.side = ap (points_of (after p (Drop kind to)) eval) (opponent_twice p.side) in
     omega (arith, ints, own, other)
 
--- the material after a move that is one on the board, as seen by the opponent
+-- the material after a move known to be on the board, as seen by the opponent
 pub material_at_board : (p : Shogi) (eval : Eval) (m : Move) (from to : ℕ) (promote : Bool) → m ≡ Board from to promote → IsValid p → from < 81 → to < 81 → is_legal p m ≡ true
     → material_of (after p m) eval ≡ pos 0 -ℤ (material_of p eval +ℤ pos (taken_gain eval (piece_at p.cells to) + promotion_gain promote (piece_at p.cells from)))
 material_at_board p eval m from to promote e v f t l = subst (λ (x : Move). is_legal p x ≡ true → material_of (after p x) eval ≡ pos 0 -ℤ (material_of p eval +ℤ pos (taken_gain eval (piece_at p.cells to) + promotion_gain promote (piece_at p.cells from)))) (sym e) (material_after_board p eval from to promote v f t) l

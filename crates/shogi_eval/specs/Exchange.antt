@@ -1,4 +1,4 @@
--- What a capture or a promotion at the end of a line is answered by: the best exchange on one square (own choice; static exchange evaluation, with the least valuable attacker first).
+-- The answer to a capture or promotion that ends a line: the best exchange on one square (own choice; static exchange evaluation, least valuable attacker first).
 use Rattle.std.specs.Prelude.{ℕ, zero, suc, ℤ, pos, ◌-ℤ◌, ◌+◌, ◌*◌, ◌==◌, ◌&&◌, Bool, true, false, not, cond, nat_lt, is_some, is_none, List, [], ◌∷◌, Option, Some, None}
 use Rattle.std.specs.Int.{int_max}
 use Rattle.shogi_core.specs.declared.moves.Move.{Move}
@@ -48,7 +48,7 @@ cheaper p None code = Some code
 cheaper p (Some best) code =
     cond (nat_lt (price p (move_of code)) (price p (move_of best))) (Some code) (Some best)
 
--- the cheapest of the best move so far and the captures on the square among the codes; the first of several at one price
+-- the cheapest of the best move so far and the captures on the square; the first of several at one price
 abbrev pub cheapest : Shogi → ℕ → Option ℕ → List ℕ → Option ℕ
 cheapest p s best [] = best
 cheapest p s best (code ∷ codes) =
@@ -82,7 +82,7 @@ captures_max = 40
 abbrev pub best_settled : Shogi → Eval → ℤ
 best_settled p e = most_settled p e captures_max 80
 
--- the points of the side to move after the move that ends a line: its material, or, under Exchange after a move that is not quiet, those after its best exchange
+-- the points of the side to move after the move that ends a line: its material, or those after its best exchange, under Exchange if the move was not quiet
 abbrev pub leaf_after : Shogi → Eval → ℕ → ℤ
 leaf_after p Plain code = material_of (after_code p code) Plain
 leaf_after p Hand code = material_of (after_code p code) Hand

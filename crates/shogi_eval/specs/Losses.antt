@@ -1,4 +1,4 @@
--- What a drop takes from the material of its side, at most.
+-- Bounds on the points that a drop costs its side.
 use Rattle.std.specs.Prelude.{ℤ, pos, ◌<◌, ◌≤ℤ◌, ◌-ℤ◌}
 use Rattle.shogi_core.specs.declared.piece.Color.{Color}
 use Rattle.shogi_core.specs.declared.piece.Kind.{Kind}

@@ -1,4 +1,4 @@
--- Hands as text, with counts that stop at the most that is counted, as the code keeps them.
+-- Hands as text, with counts that saturate, as the code keeps them.
 use Rattle.std.specs.Prelude.{ℕ, ◌+◌, ◌-◌, ◌*◌, ◌==◌, ◌&&◌, false, List, [], ◌∷◌, Option, Some, None, cond, is_none, slice_set, unwrap_or, min, map}
 use Rattle.std.specs.Option.{option_and_then}
 use Rattle.std.specs.Char.{is_ascii_digit}

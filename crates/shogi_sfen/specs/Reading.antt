@@ -1,4 +1,4 @@
--- How a move text is read, byte by byte: the same as the move among all whose text it is.
+-- How a move text is read, byte by byte: as the move, of all moves, with this text.
 use Rattle.std.specs.Prelude.{ℕ, ◌+◌, ◌-◌, ◌*◌, ◌==◌, ◌&&◌, Bool, true, false, List, Option, Some, None, cond, nat_lt, length, slice_index}
 use Rattle.shogi_core.specs.declared.piece.Kind.{Kind}
 use Rattle.shogi_core.specs.declared.moves.Move.{Move}

@@ -39,7 +39,7 @@ abbrev pub rest_after : ℕ → List ℕ → List ℕ
 rest_after zero text = text
 rest_after (suc n) text = rest_after n (after_word text)
 
--- the next word was given, if there is one, and the text after it is left; else the whole text is left
+-- the next word was given and the text after it is left, or there is none and the whole text is left
 abbrev pub GivesWord : List ℕ → Option (Bor (List ℕ)) → List ℕ → Type 0
 GivesWord text None rest = (words text ≡ []) × (rest ≡ text)
 GivesWord text (Some word) rest = (words text ≡ word.now ∷ words rest) × (rest ≡ after_word text)
