@@ -245,7 +245,6 @@ def other_words_are_refused():
         ["perft", "--depth", "1", "--max-depth", "1"],
         ["perft", "--depth", "1", "--sfen"],
         ["moves", "startpos"],
-        ["moves", "--sfen", "startpos"],
         ["moves", "--depth", "1"],
         ["mate", "startpos"],
         ["mate", "--plies"],
@@ -296,7 +295,7 @@ def an_evaluation_is_one_of_three():
     said = b"error: --eval takes plain, hand or exchange" + POINTER
     for words in (
         ["stdio", "--eval", "material"],
-        ["stdio", "--eval", "Plain"],
+        ["stdio", "--eval", "PLAIN"],
         ["stdio", "--eval="],
         ["replay", "--eval", "plains"],
         ["serve", "--socket", "s", "--eval", "exchange "],
@@ -338,8 +337,11 @@ def usi_shows_the_setup():
         (["--max-depth", "2"], usi_of(depth=2, most=2)),
         (["--max-depth", "1"], usi_of(depth=1, most=1)),
         (["--lines", "8"], usi_of(lines=8)),
+        (["--eval", "Plain"], usi_of()),
         (["--eval", "hand"], usi_of(evaluation=b"Hand")),
+        (["--eval", "Hand"], usi_of(evaluation=b"Hand")),
         (["--eval", "exchange"], usi_of(evaluation=b"Exchange")),
+        (["--eval", "Exchange"], usi_of(evaluation=b"Exchange")),
         (
             ["--depth", "4", "--max-depth", "4", "--lines", "2", "--eval", "exchange"],
             usi_of(4, 4, b"Exchange", 2),
@@ -356,6 +358,7 @@ def usi_shows_the_setup():
 
 # What front ends are told of it: docs/GUIDE.md.
 ANALYST = usi_of(6, 8, b"Exchange")
+ANALYST_WORDS = b"stdio;--eval;exchange;--depth;6;--max-depth;8;"
 
 
 def ended_with(words, sent, **how):
@@ -395,6 +398,14 @@ def the_analyst_sets_the_program_up():
             want((ended_with([path, *words], b""), given[0]), (given, 2), f"{words}")
         host = os.path.join(os.path.dirname(path), "usi_host")
         missing = f"usi_analyst: no program usi_host beside it: {host}\n".encode()
+        os.unlink(host)
+        with open(host, "w", encoding="utf-8") as file:
+            file.write('#!/bin/sh\nprintf "%s;" "$@"\n')
+        os.chmod(host, 0o755)
+        for words, more in (([], "--entries;65536;"), (["--lines", "2"], "--entries;65536;--lines;2;")):
+            want(ended_with([path, *words], b"")[1], ANALYST_WORDS + more.encode(), f"with {words}")
+        for words in (["--entries", "7"], ["--lines", "2", "--entries=7"]):
+            want(ended_with([path, *words], b"")[1], ANALYST_WORDS + "".join(f"{it};" for it in words).encode(), f"{words}")
         os.chmod(host, 0o644)
         want(ended_with([path], b"usi\n"), (127, b"", missing), "a file that is no program")
         os.unlink(host)
@@ -859,11 +870,24 @@ def moves_are_listed_by_code():
     want(run(["perft", "--depth", "3", "--sfen", mated]), (0, b"0\n", b""), "a mated side")
 
 
-def a_bad_sfen_is_named():
+def startpos_is_a_position():
+    """By the word as by its SFEN, with moves and blanks; a line for `mate` as well."""
+    for words in (["moves"], ["perft", "--depth", "2", "--divide"]):
+        for sfen in ("startpos", " startpos\t", "startpos moves"):
+            want(run([*words, "--sfen", sfen]), run(words), f"{words} {sfen}")
+        played = f"{OPENING} moves 7g7f 3c3d"
+        want(run([*words, "--sfen", "startpos moves 7g7f 3c3d"]), run([*words, "--sfen", played]), f"{words} {played}")
+    want(run(["perft", "--depth", "2", "--sfen", "startpos"]), (0, b"900\n", b""), "two plies")
+    want(run(["mate", "--plies", "1"], b"startpos\n"), (0, b"no mate in 1 plies by checks\n", b""), "a line")
 
+
+def a_bad_sfen_is_named():
     for sfen, why in (
         ("x", b"it does not begin with a board"),
-        ("startpos", b"it does not begin with a board"),
+        ("Startpos", b"it does not begin with a board"),
+        ("moves 7g7f", b"it does not begin with a board"),
+        ("startpos 7g7f", b"what follows it is not `moves` and moves"),
+        ("startpos moves 7g7f 7g7f", b"move 2 is not legal"),
         ("4k4/9/9/9/9/9/9/9/4K4", b"the side to move is neither b nor w"),
         ("4k4/9/9/9/9/9/9/9/4K4 B -", b"the side to move is neither b nor w"),
         ("4k4/9/9/9/9/9/9/9/4K4 b", b"the hands are missing or cannot be read"),
@@ -1119,6 +1143,7 @@ CHECKS = (
     counts_are_those_that_are_published,
     divided_counts_make_the_whole,
     moves_are_listed_by_code,
+    startpos_is_a_position,
     a_bad_sfen_is_named,
     a_list_and_a_count_tell_their_faults,
     a_long_count_tells_a_terminal_how_far_it_is,

@@ -4,7 +4,7 @@ use Rattle.std.specs.List.{list_any}
 use Rattle.std.specs.Io.KnownBytes.{Appends, Consumes, IsAtEnd}
 use Rattle.shogi_core.specs.Position.{Shogi}
 use Rattle.usi_lines.specs.Lines.{Buffer, Line, ahead, lines}
-use Rattle.usi_texts.specs.PositionCommand.{position_of_sfen}
+use Rattle.usi_moves.specs.Asked.{position_of_text}
 use Rattle.usi_texts.specs.declared.position_command.Refusal.{Refusal}
 use Rattle.usi_moves.specs.MateAnswers.{has_bad_line, input_answers, is_bad, line_answer, line_answers}
 use Rattle.usi_moves.specs.Solutions.{mate_text}
@@ -62,7 +62,7 @@ pub record AreAnswers (options : MateOptions) (old new : Report) (status : ℕ) 
 -- the position of a text was solved, or, without one, that of each line
 abbrev pub IsSolving : Option (List ℕ) → MateOptions → Report → Report → ℕ → Type 0
 IsSolving (Some text) options old new status =
-    IsSolution (position_of_sfen text) options old new status
+    IsSolution (position_of_text text) options old new status
 IsSolving None options old new status = AreAnswers options old new status
 
 -- ---- between two reads

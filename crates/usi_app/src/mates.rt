@@ -3,7 +3,7 @@
 ghost use Rattle.std.specs.Prelude.{◌≡◌, ◌≤◌, ◌||◌, IfErr, IfOk, OnErr, OnOk, option_map};
 ghost use Rattle.mate_search.specs.declared.by_checks.TheConstants.{MOVES_MAX};
 ghost use Rattle.usi_lines.specs.Seen.{line_of};
-ghost use Rattle.usi_texts.specs.PositionCommand.{position_of_sfen};
+ghost use Rattle.usi_moves.specs.Asked.{position_of_text};
 ghost use Rattle.usi_app.specs.Mates.{AreAnswers, IsInputAnswered, IsAnsweredInPart, IsChunkAnswered, IsChunkCutShort, IsLineAnswered, IsLineCutShort, IsSolution, IsSolving, answers_status};
 
 use crate::counts::{NOT_ACCEPTED, OUT_OF_MEMORY, complain, refuse};
@@ -13,9 +13,8 @@ use mate_search::MateProgress;
 use std::alloc::Allocator;
 use std::rt::Clock;
 use usi_lines::{Line, LineBuffer};
-use usi_moves::{MateOptions, write_answer, write_mate};
+use usi_moves::{MateOptions, position_of_text, write_answer, write_mate};
 use usi_stdio::{FrontEnd, StdioFault, write_out};
-use usi_texts::position_of_sfen;
 
 /// The most bytes of one read (own choice).
 const CHUNK_MAX: usize = 4_096;
@@ -186,10 +185,10 @@ fn solve_text<E: Eprint, A: Allocator + Copy, P: MateProgress, T: FrontEnd>(
 ) -> u8
     requires least { 1 ≤ options.most }
     requires most { options.most ≤ MOVES_MAX }
-    ensures { IsSolution (position_of_sfen sfen.now) options
+    ensures { IsSolution (position_of_text sfen.now) options
         (T.report front_end.old) (T.report front_end.new) result }
 {
-    let p = match position_of_sfen(sfen) {
+    let p = match position_of_text(sfen) {
         Ok(p) => p,
         Err(refusal) => return refuse(errors, alloc, refusal),
     };

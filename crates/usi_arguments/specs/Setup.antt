@@ -1,24 +1,36 @@
 -- The setup of the sessions, as the options of the command line say it (own choice).
-use Rattle.std.specs.Prelude.{◌≡◌, ◌⊎◌, ◌≤◌, ◌<◌, ℕ, List, None, codes, min}
+use Rattle.std.specs.Prelude.{◌≡◌, ◌⊎◌, ◌||◌, ◌≤◌, ◌<◌, ℕ, List, Option, Some, None, codes, cond, min}
+use Rattle.std.specs.Str.{bytes_eq}
 use Rattle.clap.specs.Words.{Row, Text, first_of}
-use Rattle.usi_arguments.specs.CommandLine.{IsFromOne, NamesNumber, NamesText}
+use Rattle.usi_arguments.specs.CommandLine.{IsFromOne, NamesNumber}
 use Rattle.usi_arguments.specs.declared.setup.Evaluation.{Evaluation}
 use Rattle.usi_arguments.specs.declared.setup.Evaluation.TheVariants.{Plain, Hand, Exchange}
 use Rattle.usi_arguments.specs.declared.setup.SetupOptions.{SetupOptions}
 
--- the word that names an evaluation
-abbrev pub evaluation_word : Evaluation → Text
-evaluation_word Plain = codes "plain"
-evaluation_word Hand = codes "hand"
-evaluation_word Exchange = codes "exchange"
+-- the evaluation that a word names, in small letters or as the option `Eval` of USI spells it
+abbrev pub evaluation_named : Text → Option Evaluation
+evaluation_named word =
+    cond (bytes_eq word (codes "plain") || bytes_eq word (codes "Plain")) (Some Plain)
+    (cond (bytes_eq word (codes "hand") || bytes_eq word (codes "Hand")) (Some Hand)
+    (cond (bytes_eq word (codes "exchange") || bytes_eq word (codes "Exchange")) (Some Exchange)
+    None))
+
+-- the evaluation that a value names; an option without a value names none
+abbrev pub evaluation_in : Option Text → Option Evaluation
+evaluation_in None = None
+evaluation_in (Some word) = evaluation_named word
+
+-- the evaluation that `--eval` names
+abbrev pub evaluation_of : List Row → Option Evaluation
+evaluation_of options = evaluation_in (first_of (codes "eval") options)
 
 -- `--eval` names this evaluation
 abbrev pub NamesEvaluation : List Row → Evaluation → Type 0
-NamesEvaluation options evaluation = NamesText (codes "eval") options (evaluation_word evaluation)
+NamesEvaluation options evaluation = evaluation_of options ≡ Some evaluation
 
 -- `--eval` names no evaluation
 abbrev pub HasNoEvaluation : List Row → Type 0
-HasNoEvaluation options = (evaluation : Evaluation) → NamesEvaluation options evaluation → ⊥
+HasNoEvaluation options = evaluation_of options ≡ None
 
 -- the depth is the number of `--depth`; where that is left out it is 3, or the greatest depth where that is less
 abbrev pub NamesDepth : List Row → ℕ → ℕ → Type 0

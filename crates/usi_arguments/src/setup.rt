@@ -2,7 +2,7 @@
 ghost use Rattle.std.specs.Prelude.{◌≡◌, IfNone, IfSome, min};
 ghost use Rattle.usi_arguments.specs.CommandLine.{IsFromOne, options_in};
 ghost use Rattle.usi_arguments.specs.declared.setup.Evaluation.{Evaluation};
-ghost use Rattle.usi_arguments.specs.Setup.{AreSetupOptions, HasDepth, HasNoDepth, HasNoEvaluation, HasNoSetup, NamesEvaluation, evaluation_word};
+ghost use Rattle.usi_arguments.specs.Setup.{AreSetupOptions, HasDepth, HasNoDepth, HasNoSetup, evaluation_named, evaluation_of};
 
 use crate::values::number_of;
 use clap::ArgMatches;
@@ -82,23 +82,22 @@ fn usual_depth(most: usize) -> usize
 
 /// The evaluation that `--eval` names.
 pub(crate) fn evaluation_of(options: &ArgMatches<'_>) -> Option<Evaluation>
-    ensures some { IfSome result (NamesEvaluation (options_in options.now)) }
-    ensures if_none { IfNone result (HasNoEvaluation (options_in options.now)) }
+    ensures { result ≡ evaluation_of (options_in options.now) }
 {
     evaluation_named(options.get_str("eval")?)
 }
 
+/// The evaluation of a word, in small letters or as the option `Eval` of USI spells it.
 fn evaluation_named(word: &str) -> Option<Evaluation>
-    ensures some { IfSome result (λ evaluation. word.now ≡ evaluation_word evaluation) }
-    ensures if_none { IfNone result ((e : Evaluation) → word.now ≡ evaluation_word e → ⊥) }
+    ensures { result ≡ evaluation_named word.now }
 {
-    if word == "plain" {
+    if word == "plain" || word == "Plain" {
         return Some(Evaluation::Plain);
     }
-    if word == "hand" {
+    if word == "hand" || word == "Hand" {
         return Some(Evaluation::Hand);
     }
-    if word == "exchange" {
+    if word == "exchange" || word == "Exchange" {
         return Some(Evaluation::Exchange);
     }
     None

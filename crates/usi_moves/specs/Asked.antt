@@ -1,15 +1,28 @@
 -- The position that `--sfen` asks for, and what is said where it asks for none (own choice).
-use Rattle.std.specs.Prelude.{ℕ, List, ◌++◌, ◌==◌, codes, cond, decimal, Option, Some, None, Result, Ok}
+use Rattle.std.specs.Prelude.{ℕ, List, [], ◌∷◌, ◌++◌, ◌==◌, codes, cond, decimal, Option, Some, None, Result, Ok}
+use Rattle.std.specs.Str.{bytes_eq}
 use Rattle.shogi_core.specs.Position.{Shogi}
 use Rattle.shogi_core.specs.Start.{start}
-use Rattle.usi_texts.specs.PositionCommand.{position_of_sfen}
+use Rattle.shogi_sfen.specs.Words.{after_word, words}
+use Rattle.usi_texts.specs.PositionCommand.{position_of_sfen, position_of_startpos}
 use Rattle.usi_texts.specs.declared.position_command.Refusal.{Refusal}
 use Rattle.usi_texts.specs.declared.position_command.Refusal.TheVariants.{BadPosition, IllegalMove}
 
--- the opening position where no text is given, and else that of the text, as it follows `position sfen`
+-- the position of a text with these words: what follows `position`, or an SFEN without the word `sfen`
+abbrev pub position_by : List (List ℕ) → List ℕ → Result Shogi Refusal
+position_by [] text = position_of_sfen text
+position_by (word ∷ more) text =
+    cond (bytes_eq word (codes "startpos")) (position_of_startpos (after_word text))
+    (position_of_sfen text)
+
+-- the position of a text: `startpos` or an SFEN, and after it `moves` and moves
+abbrev pub position_of_text : List ℕ → Result Shogi Refusal
+position_of_text text = position_by (words text) text
+
+-- the opening position if no text is given, and otherwise the position of the text
 abbrev pub asked_position : Option (List ℕ) → Result Shogi Refusal
 asked_position None = Ok start
-asked_position (Some text) = position_of_sfen text
+asked_position (Some text) = position_of_text text
 
 -- why there is no position, by the number of its fault
 abbrev pub reason_of : ℕ → List ℕ

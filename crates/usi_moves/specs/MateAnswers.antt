@@ -4,9 +4,8 @@ use Rattle.std.specs.List.{list_any}
 use Rattle.shogi_core.specs.Position.{Shogi}
 use Rattle.usi_lines.specs.Lines.{Line, Text, TooLong, lines}
 use Rattle.usi_lines.specs.declared.line.TheConstants.{LINE_FEED}
-use Rattle.usi_texts.specs.PositionCommand.{position_of_sfen}
 use Rattle.usi_texts.specs.declared.position_command.Refusal.{Refusal}
-use Rattle.usi_moves.specs.Asked.{refusal_words}
+use Rattle.usi_moves.specs.Asked.{position_of_text, refusal_words}
 use Rattle.usi_moves.specs.Solutions.{mate_text}
 use Rattle.usi_moves.specs.declared.solutions.MateOptions.{MateOptions}
 
@@ -31,7 +30,7 @@ read_answer options number (Err refusal) = bad_line_text number (refusal_words r
 abbrev pub line_answer : MateOptions → ℕ → Line → List ℕ
 line_answer options number (Text []) = []
 line_answer options number (Text (byte ∷ rest)) =
-    read_answer options number (position_of_sfen (byte ∷ rest))
+    read_answer options number (position_of_text (byte ∷ rest))
 line_answer options number TooLong = bad_line_text number too_long_words
 
 -- the answers to lines, the first of which has this number
@@ -47,7 +46,7 @@ is_refusal (Err refusal) = true
 -- the line is not empty and has no position
 abbrev pub is_bad : Line → Bool
 is_bad (Text []) = false
-is_bad (Text (byte ∷ rest)) = is_refusal (position_of_sfen (byte ∷ rest))
+is_bad (Text (byte ∷ rest)) = is_refusal (position_of_text (byte ∷ rest))
 is_bad TooLong = true
 
 -- if it succeeds, the answer was appended, and it tells whether the line is bad

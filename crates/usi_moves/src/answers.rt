@@ -7,13 +7,13 @@ ghost use Rattle.usi_moves.specs.Asked.{refusal_words};
 ghost use Rattle.usi_moves.specs.Listings.{Appends};
 ghost use Rattle.usi_moves.specs.MateAnswers.{AppendsAnswer, bad_line_text, number_words, too_long_words};
 
-use crate::asked::write_reason;
+use crate::asked::{position_of_text, write_reason};
 use crate::solutions::{MateOptions, write_mate};
 use itoa::Buffer;
 use mate_search::MateProgress;
 use std::alloc::{AllocError, Allocator};
 use usi_lines::Line;
-use usi_texts::{Refusal, position_of_sfen};
+use usi_texts::Refusal;
 
 /// Appends which line is bad.
 #[tactic(auto, using(crate::proofs::Appending::after_three))]
@@ -74,7 +74,7 @@ pub fn write_answer<A: Allocator + Copy, P: MateProgress>(
     if text.is_empty() {
         return Ok(false);
     }
-    match position_of_sfen(text) {
+    match position_of_text(text) {
         Ok(p) => {
             write_mate(alloc, out, &p, options, progress)?;
             Ok(false)

@@ -1,21 +1,33 @@
 //! The position that is asked for.
 
 ghost use Rattle.std.specs.Prelude.{◌≡◌, option_map};
-ghost use Rattle.usi_moves.specs.Asked.{asked_position, illegal_words, reason_of, refusal_text, refusal_words};
+ghost use Rattle.usi_moves.specs.Asked.{asked_position, illegal_words, position_of_text, reason_of, refusal_text, refusal_words};
 ghost use Rattle.usi_moves.specs.Listings.{Appends};
 
 use itoa::Buffer;
 use shogi_core::Position;
+use shogi_sfen::words;
 use std::alloc::{AllocError, Allocator};
-use usi_texts::{Refusal, position_of_sfen};
+use usi_texts::{Refusal, position_of_sfen, position_of_startpos};
 
-/// The position of a text as it follows `position sfen` (SFEN, and after it `moves` and moves), or
-/// the opening position where there is none.
+/// The position of a text: `startpos` or an SFEN, and after it nothing or `moves` and moves. A text
+/// that begins with another word is read as an SFEN, so its fault is that of `position sfen`.
+pub fn position_of_text(text: &[u8]) -> Result<Position, Refusal>
+    ensures { result ≡ position_of_text text.now }
+{
+    let mut rest = words(text);
+    match rest.next() {
+        Some(b"startpos") => position_of_startpos(rest.rest()),
+        _ => position_of_sfen(text),
+    }
+}
+
+/// The position of the text that `--sfen` gives, or the opening position if the option is left out.
 pub fn asked_position(sfen: Option<&[u8]>) -> Result<Position, Refusal>
     ensures { result ≡ asked_position (option_map (λ text. text.now) sfen.entry) }
 {
     match sfen {
-        Some(text) => position_of_sfen(text),
+        Some(text) => position_of_text(text),
         None => Ok(Position::start()),
     }
 }
