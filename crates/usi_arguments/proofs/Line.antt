@@ -200,7 +200,7 @@ not_unfit job said reach (inr even) = let bad : true ≡ false = sym even.0 ∙ 
 has_job : (command : Option (Text × List Row)) (job : Job) (said : List ℕ) → KnowsEvaluation command → NamesJob command job → HasRanges job → HasReach job
     → ((other : Job) → NamesJob command other → other ≡ job) → IsNoJob command said → ⊥
 has_job (Some command) job said (inl bare) names range reach only (inl is) = let bad : true ≡ false = sym bare ∙ is.0.0 in absurd (true≢false bad)
-has_job (Some command) job said (inr known) names range reach only (inl is) = is.0.1 known.0 known.1
+has_job (Some command) job said (inr known) names range reach only (inl is) = let none = is.0.1 in let named = known.1 in cc
 has_job None job said knows names range reach only (inl is) = is.0
 has_job command job said knows names range reach only (inr (inl is)) = is.1 job range names
 has_job command job said knows names range reach only (inr (inr is)) =

@@ -4,14 +4,14 @@ use Rattle.clap.proofs.WalkLemmas.{first_value-rows}
 use Rattle.usi_arguments.specs.Setup.{evaluation_in}
 use Rattle.usi_arguments.proofs.setup.evaluation_of.Goals as goal
 
-pub returns-in_err-get_str-clause : goal.returns-in_err-get_str-clause
-returns-in_err-get_str-clause c =
-    ap evaluation_in
+pub returns-in_err-get_str : goal.returns-in_err-get_str
+returns-in_err-get_str c =
+    c.from_residual.ensures ∙ ap evaluation_in
     (sym (ap (option_map (λ s. s.now)) c.in_err-get_str.was) ∙ c.get_str.ensures
     ∙ first_value-rows (found_of c.args.options.now) (codes "eval"))
 
-pub returns-clause : goal.returns-clause
-returns-clause c =
+pub returns : goal.returns
+returns c =
     c.evaluation_named.ensures
     ∙ ap evaluation_in
     (sym (ap (option_map (λ s. s.now)) c.in_ok-get_str.was) ∙ c.get_str.ensures

@@ -18,4 +18,4 @@ returns-in_err-lines-clause-if_none c = if_none c.from_residual-in_err-lines.res
 pub returns-in_err-evaluation-clause-if_none : goal.returns-in_err-evaluation-clause-if_none
 returns-in_err-evaluation-clause-if_none c =
     if_none c.from_residual-in_err-evaluation.result _
-    (no_evaluation (options_in c.args.options.now) (sym c.in_err-evaluation.ensures ∙ c.in_err-evaluation.was))
+    (no_evaluation (options_in c.args.options.now) (sym c.evaluation_of.ensures ∙ c.in_err-evaluation.was))
