@@ -1,13 +1,13 @@
 -- Attacks on a square: a step, a jump, or a slide against one of the eight directions.
-use Rattle.std.proofs.Common.{◌≡◌, ◌⊎◌, ℕ, ◌%◌, ◌<◌, Bool, true, false, refl, sym, ap, ◌∙◌, arith, inl, inr, Option, Some, None, bit_and, List, [], ◌∷◌}
+use Rattle.std.proofs.Common.{◌≡◌, ◌⊎◌, ℕ, ◌+◌, ◌%◌, ◌<◌, Bool, true, false, refl, sym, ap, subst, ◌∙◌, arith, inl, inr, Option, Some, None, bit_and, List, [], ◌∷◌}
 use Rattle.std.specs.Prelude.{◌==◌, ◌&&◌, ◌||◌, zero, suc, is_none}
 use Rattle.std.specs.List.{list_any, list_all}
-use Rattle.std.proofs.lemmas.Bool.{cases_Bool, false_from_ne_true, both_ways, and_parts, and_from, or_cases, or_left, or_right}
+use Rattle.std.proofs.lemmas.Bool.{cases_Bool, cases_eq, eq-eqb, ne_eqb, false_from_ne_true, both_ways, and_parts, and_from, or_cases, or_from, or_left, or_right}
 use Rattle.shogi_core.specs.declared.offset.Offset.{Offset}
 use Rattle.shogi_core.specs.declared.piece.Color.{Color}
 use Rattle.shogi_core.specs.declared.piece.Color.TheVariants.{Black, White}
 use Rattle.shogi_core.specs.declared.piece.Piece.{Piece}
-use Rattle.shogi_core.specs.Attack.{is_attacked_from, is_attacked, is_sniper, cell_steps, cell_slides_back, is_step_from, is_step_among, slider_attacks_from, slider_attacks_along}
+use Rattle.shogi_core.specs.Attack.{is_attacked_from, is_attacked, is_sniper, cell_steps, cell_slides_back, is_step_from, is_step_among, is_slide_below, slider_attacks_from, slider_attacks_along}
 use Rattle.shogi_core.specs.Below.{some_below}
 use Rattle.shogi_core.specs.Bits.{has_bit}
 use Rattle.shogi_core.specs.Cell.{is_piece_of, is_slider}
@@ -15,13 +15,22 @@ use Rattle.shogi_core.specs.Lines.{back, around, are_aligned, are_lined, is_near
 use Rattle.shogi_core.specs.Movement.{Cells, up, down, left, right, up_left, up_right, down_left, down_right, straight, diagonal, forward, slides, for_side, slides_of, has_slide, has_step, cell_reaches, reaches, piece_at}
 use Rattle.shogi_core.specs.Rays.{direction_at, ray_of}
 use Rattle.shogi_core.proofs.Back.{back_twice}
-use Rattle.shogi_core.proofs.Below.{some_below_at, some_below_no, some_below_found}
+use Rattle.shogi_core.proofs.Below.{some_below_at, some_below_more, some_below_no, some_below_not, some_below_found}
 use Rattle.shogi_core.proofs.BitLaws.{has_bit-and, has_bit-none}
 use Rattle.shogi_core.proofs.Discovered.{same_way, same_way_is, one_of, list_any_kept, some_below_which}
 use Rattle.shogi_core.proofs.LineBits.{has_bit-ray}
 use Rattle.shogi_core.proofs.Nearest.{one_piece}
 use Rattle.shogi_core.proofs.RayLaws.{slides_bare}
 use Rattle.shogi_core.proofs.SeenLaws.{Covers, covers_less, covers_none, slides_back, slides_back_around, slides_role, step_near, lined_aligned}
+
+or_none : (b : Bool) → b ≡ (b || false)
+or_none b = grind arith
+
+eq_either : (a b : ℕ) → (a == b) ≡ (b == a)
+eq_either a b = elim (cases_eq a b) [
+  | inl same ↦ eq-eqb a b same ∙ sym (eq-eqb b a (sym same))
+  | inr other ↦ ne_eqb a b other ∙ sym (ne_eqb b a (λ same. other (sym same)))
+]
 
 -- ---- directions
 
@@ -186,6 +195,56 @@ module _ (cells : Cells) (color : Color) (square : ℕ) (low : square < 81) wher
         | inr slide ↦ inr (shot_on a h piece at own slide)
       ]
 
+  -- a piece attacks by a step or a slide
+  slide_from : (a : ℕ) → a < 81 → is_attacked_from cells color square a ≡ true → (is_step_from cells color square a || is_slide_below cells color square a 8) ≡ true
+  unfolding reaches
+  slide_from a h e =
+      let parts : (is_piece_of color (piece_at cells a) ≡ true) × (reaches cells a square ≡ true) = and_parts _ _ e in
+      go (piece_at cells a) refl parts.0 parts.1
+    where
+      go : (cell : Option Piece) → piece_at cells a ≡ cell → is_piece_of color (piece_at cells a) ≡ true → cell_reaches cells cell a square ≡ true → (is_step_from cells color square a || is_slide_below cells color square a 8) ≡ true
+      go None at own f = absurd (cc)
+      go (Some piece) at own f = elim (or_cases (has_step piece a square) (has_slide cells piece a square) f) [
+        | inl step ↦ or_left _ _ (and_from _ _ own (ap (λ cell. cell_steps cell a square) at ∙ step))
+        | inr slide ↦ (
+            let s = shot_by cells piece.color a square h (slides_of piece.role) (slides_back_around piece.color piece.role) slide in
+            or_right _ _ (some_below_at 8 (λ d. slider_attacks_from cells color square (direction_at d) a) s.0 s.1 (and_from _ _ (and_from _ _ own (ap (cell_slides_back (direction_at s.0)) at ∙ s.2)) s.3)))
+      ]
+
+  from_step : (a : ℕ) → is_step_from cells color square a ≡ true → is_attacked_from cells color square a ≡ true
+  unfolding reaches
+  from_step a e =
+      let parts : (is_piece_of color (piece_at cells a) ≡ true) × (cell_steps (piece_at cells a) a square ≡ true) = and_parts _ _ e in
+      and_from _ _ parts.0 (go (piece_at cells a) parts.1)
+    where
+      go : (cell : Option Piece) → cell_steps cell a square ≡ true → cell_reaches cells cell a square ≡ true
+      go None f = absurd (cc)
+      go (Some piece) f = or_left _ _ f
+
+  from_slide : (a : ℕ) → is_slide_below cells color square a 8 ≡ true → is_attacked_from cells color square a ≡ true
+  unfolding reaches
+  from_slide a e =
+      let way = some_below_which 8 (λ d. slider_attacks_from cells color square (direction_at d) a) e in
+      let outer = and_parts _ _ way.2 in
+      let inner = and_parts _ _ outer.0 in
+      and_from _ _ inner.0 (go (direction_at way.0) (piece_at cells a) inner.1 outer.1)
+    where
+      go : (o : Offset) (cell : Option Piece) → cell_slides_back o cell ≡ true → slides cells o square a ≡ true → cell_reaches cells cell a square ≡ true
+      go o None against line = absurd (cc)
+      go o (Some piece) against line = or_right (has_step piece a square) _ (slide_by cells o piece a square low against line)
+
+  pub attacked_from : (a : ℕ) → a < 81 → (is_step_from cells color square a || is_slide_below cells color square a 8) ≡ is_attacked_from cells color square a
+  attacked_from a h = elim (cases_Bool (is_attacked_from cells color square a)) [
+    | inl does ↦ slide_from a h does ∙ sym does
+    | inr not_so ↦ or_from _ _ (false_from_ne_true (is_step_from cells color square a) (λ e. both_ways (is_attacked_from cells color square a) not_so (from_step a e)))
+        (false_from_ne_true (is_slide_below cells color square a 8) (λ e. both_ways (is_attacked_from cells color square a) not_so (from_slide a e))) ∙ sym not_so
+  ]
+
+  -- against a direction in which none slides to the square no piece does
+  pub none_from : (d : ℕ) → false ≡ slider_attacks_along cells color square d → (n : ℕ) → n < 81 → false ≡ slider_attacks_from cells color square (direction_at d) n
+  unfolding slider_attacks_along
+  none_from d none n h = sym (some_below_not 81 (slider_attacks_from cells color square (direction_at d)) n (sym none) h)
+
   step_attacks : some_below 81 (is_step_from cells color square) ≡ true → true ≡ is_attacked cells color square
   unfolding reaches
   step_attacks e =
@@ -240,6 +299,12 @@ module _ (cells : Cells) (color : Color) (square : ℕ) (low : square < 81) wher
     pub no_sniper : snipers ≡ 0 → some_below 81 (is_step_from cells color square) ≡ false → false ≡ is_attacked cells color square
     no_sniper bare none = attacked_by_slide false none (sym (some_below_no 8 (slider_attacks_along cells color square) (λ d h. no_slider_attack_from d h (λ a l e. ap (λ (m : ℕ). has_bit m a) bare ∙ has_bit-none a))))
 
+    -- where there is no sniper, each piece that attacks steps there
+    pub no_slide_from : snipers ≡ 0 → (a : ℕ) → a < 81 → is_step_from cells color square a ≡ is_attacked_from cells color square a
+    no_slide_from bare a h =
+        let none : is_slide_below cells color square a 8 ≡ false = some_below_no 8 (λ d. slider_attacks_from cells color square (direction_at d) a) (λ d l. false_from_ne_true (slider_attacks_from cells color square (direction_at d) a) (λ e. both_ways (has_bit snipers a) (ap (λ (m : ℕ). has_bit m a) bare ∙ has_bit-none a) (shots a h ∙ shot_sniper d a l e))) in
+        or_none (is_step_from cells color square a) ∙ (ap (λ b. is_step_from cells color square a || b) (sym none) ∙ attacked_from a h)
+
     pub no_sniper_ahead : (d : ℕ) → d < 8 → bit_and (ray_of (direction_at d) square) snipers ≡ 0 → slider_attacks_along cells color square d ≡ false
     no_sniper_ahead d h bare = no_slider_attack_from d h (λ a l e. false_from_ne_true (has_bit snipers a) (λ set.
         both_ways (has_bit (bit_and (ray_of (direction_at d) square) snipers) a) (ap (λ (m : ℕ). has_bit m a) bare ∙ has_bit-none a)
@@ -283,8 +348,28 @@ module _ (cells : Cells) (color : Color) (square : ℕ) (low : square < 81) wher
             both_ways (cell_slides_back (direction_at d) (piece_at cells f)) away (ap (λ (k : ℕ). cell_slides_back (direction_at d) (piece_at cells k)) (sym (first_alone a e)) ∙ inner.1)))))
       ]
 
+      -- it alone, if it slides back
+      pub first_from : has_bit snipers f ≡ true → cell_slides_back (direction_at d) (piece_at cells f) ≡ true → (n : ℕ) → (f == n) ≡ slider_attacks_from cells color square (direction_at d) n
+      first_from set against n = elim (cases_eq f n) [
+        | inl same ↦ (
+            let sniper : is_sniper cells color square f ≡ true = sym (shots f inside) ∙ set in
+            let own : is_piece_of color (piece_at cells f) ≡ true = (and_parts _ _ ((and_parts _ _ sniper).0)).0 in
+            eq-eqb f n same ∙ sym (subst (λ (x : ℕ). slider_attacks_from cells color square (direction_at d) x ≡ true) same (and_from _ _ (and_from _ _ own against) line)))
+        | inr other ↦ ne_eqb f n other ∙ sym (false_from_ne_true (slider_attacks_from cells color square (direction_at d) n) (λ e. other (sym (first_alone n e))))
+      ]
+
       pub first_harmless : has_bit snipers f ≡ false → false ≡ slider_attacks_along cells color square d
       first_harmless clear = sym (no_slider_attack_from d range (λ a l e. ap (has_bit snipers) (first_alone a e) ∙ clear))
+
+-- ---- sliders direction by direction
+
+pub one_more_slider : (cells : Cells) (color : Color) (square n d found more first : ℕ) → has_bit found n ≡ is_slide_below cells color square n d → has_bit more n ≡ (has_bit found n || n == first) → (first == n) ≡ slider_attacks_from cells color square (direction_at d) n → has_bit more n ≡ is_slide_below cells color square n (d + 1)
+one_more_slider cells color square n d found more first before bits at =
+    bits ∙ (ap (λ b. b || n == first) before ∙ (ap (λ b. is_slide_below cells color square n d || b) (eq_either n first ∙ at) ∙ sym (some_below_more d (λ d. slider_attacks_from cells color square (direction_at d) n))))
+
+pub no_more_slider : (cells : Cells) (color : Color) (square n d found : ℕ) → has_bit found n ≡ is_slide_below cells color square n d → false ≡ slider_attacks_from cells color square (direction_at d) n → has_bit found n ≡ is_slide_below cells color square n (d + 1)
+no_more_slider cells color square n d found before at =
+    before ∙ (or_none (is_slide_below cells color square n d) ∙ (ap (λ b. is_slide_below cells color square n d || b) at ∙ sym (some_below_more d (λ d. slider_attacks_from cells color square (direction_at d) n))))
 
 -- ---- steps
 
@@ -298,6 +383,17 @@ steps_first cells square among near nears = record {
       let parts : (has_bit among a ≡ true) × (cell_steps (piece_at cells a) a square ≡ true) = and_parts _ _ e in
       has_bit-and near among a ∙ and_from _ _ (nears a h ∙ cell_near (piece_at cells a) a square h parts.1) parts.0);
 }
+
+near_implied : (near among step : Bool) → (step ≡ true → near ≡ true) → ((near && among) && step) ≡ (among && step)
+near_implied true among step h = grind arith
+near_implied false among true h = absurd (both_ways false refl (h refl))
+near_implied false among false h = grind arith
+
+-- nothing else than what is near steps there
+pub steps_near : (cells : Cells) (square among near n : ℕ) → n < 81 → ((b : ℕ) → b < 81 → has_bit near b ≡ is_near square b) → (has_bit (bit_and near among) n && cell_steps (piece_at cells n) n square) ≡ is_step_among cells among square n
+steps_near cells square among near n h nears =
+    ap (λ b. b && cell_steps (piece_at cells n) n square) (has_bit-and near among n)
+    ∙ near_implied (has_bit near n) (has_bit among n) (cell_steps (piece_at cells n) n square) (λ e. nears n h ∙ cell_near (piece_at cells n) n square h e)
 
 pub steps_among : (near among n : ℕ) → has_bit (bit_and near among) n ≡ true → has_bit among n ≡ true
 steps_among near among n e = (and_parts _ _ (sym (has_bit-and near among n) ∙ e)).1

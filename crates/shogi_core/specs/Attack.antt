@@ -8,7 +8,7 @@ use Rattle.shogi_core.specs.Below.{some_below}
 use Rattle.shogi_core.specs.Bits.{HasBits, has_bit}
 use Rattle.shogi_core.specs.Cell.{is_piece_of, is_king, is_slider}
 use Rattle.shogi_core.specs.Lines.{are_aligned, back, is_same_offset}
-use Rattle.shogi_core.specs.Movement.{Cells, piece_at, reaches, has_step, slides, slides_of, for_side}
+use Rattle.shogi_core.specs.Movement.{Cells, piece_at, reaches, has_step, is_same_square, slides, slides_of, for_side}
 use Rattle.shogi_core.specs.Pieces.{opponent_of}
 use Rattle.shogi_core.specs.Rays.{direction_at, ray_of, is_on_ray}
 
@@ -76,6 +76,11 @@ unfoldable pub slider_attacks_along : Cells → Color → ℕ → ℕ → Bool
 slider_attacks_along cells color square direction =
     some_below 81 (slider_attacks_from cells color square (direction_at direction))
 
+-- the piece on `from` is of the side, and slides to the square against one of the first directions
+abbrev pub is_slide_below : Cells → Color → ℕ → ℕ → ℕ → Bool
+is_slide_below cells color square from directions =
+    some_below directions (λ d. slider_attacks_from cells color square (direction_at d) from)
+
 -- a piece of the side slides to the square
 abbrev pub slider_attacks : Cells → Color → ℕ → Bool
 slider_attacks cells color square = some_below 8 (slider_attacks_along cells color square)
@@ -120,6 +125,28 @@ abbrev pub TellsSliderAttackAlong : Cells → ℕ → ℕ → ℕ → ℕ → Bo
 TellsSliderAttackAlong cells square direction snipers occupied answer = (color : Color) (seen : Cells)
     → ShowsSnipers cells square snipers occupied color seen
     → answer ≡ slider_attacks_along seen color square direction
+
+-- on each board that shows this much of the side, the answer is the squares of its pieces that reach the square
+abbrev pub TellsReachers : Cells → ℕ → ℕ → ℕ → ℕ → Type 0
+TellsReachers cells among occupied square reachers = (color : Color) (seen : Cells)
+    → IsSeenAs cells among occupied color seen
+    → HasBits reachers (is_attacked_from seen color square)
+
+-- on each board that shows the snipers so, the answer is those that slide to the square against one of the first directions
+abbrev pub TellsSlidersBelow : Cells → ℕ → ℕ → ℕ → ℕ → ℕ → Type 0
+TellsSlidersBelow cells square snipers occupied directions sliders = (color : Color) (seen : Cells)
+    → ShowsSnipers cells square snipers occupied color seen
+    → HasBits sliders (λ n. is_slide_below seen color square n directions)
+
+-- on each board that shows the snipers so, the answer is those that slide to the square against any direction
+abbrev pub TellsSliders : Cells → ℕ → ℕ → ℕ → ℕ → Type 0
+TellsSliders cells square snipers occupied = TellsSlidersBelow cells square snipers occupied 8
+
+-- on each board that shows the snipers so, the square found is that of the one piece that slides to the square against the direction of that number; if none is found, none does
+abbrev pub FindsSlider : Cells → ℕ → ℕ → ℕ → ℕ → Option ℕ → Type 0
+FindsSlider cells square direction snipers occupied found = (color : Color) (seen : Cells)
+    → ShowsSnipers cells square snipers occupied color seen → (n : ℕ) → n < 81
+    → is_same_square found n ≡ slider_attacks_from seen color square (direction_at direction) n
 
 -- no piece stands in the direction: each square that a slide reaches is empty
 abbrev pub IsOpenLine : Cells → Offset → ℕ → Type 0

@@ -1,7 +1,7 @@
 //! Attacks, checks and pins, seen from the attacked square.
 
 ghost use Rattle.std.specs.Prelude.{◌≡◌, ◌≢◌, ◌↔◌, ◌<◌, ◌≤◌, ◌^◌, ℕ, true, false, not, None, IfSome, IsNone};
-ghost use Rattle.shogi_core.specs.Attack.{HasNoSniper, is_attacked, is_open_king, in_check, is_sniper, is_sniping, cell_steps, cell_slides_back, is_step_from, is_step_among, slider_attacks_along, slider_attacks, FindsOccupied, FindsPiece, TellsAttack, TellsSliderAttack, TellsSliderAttackAlong, HasPinned, HasPinAlong, OthersAreUnpinned, HasNoStep, StaysIfAttacked, StaysInCheck};
+ghost use Rattle.shogi_core.specs.Attack.{HasNoSniper, is_attacked, is_open_king, in_check, is_sniper, is_sniping, cell_steps, cell_slides_back, is_step_from, is_step_among, slider_attacks_along, slider_attacks, FindsOccupied, FindsPiece, FindsSlider, TellsAttack, TellsReachers, TellsSliders, TellsSliderAttack, TellsSliderAttackAlong, HasPinned, HasPinAlong, OthersAreUnpinned, HasNoStep, StaysIfAttacked, StaysInCheck};
 ghost use Rattle.shogi_core.specs.Below.{some_below};
 ghost use Rattle.shogi_core.specs.Bits.{HasBits, has_bit};
 ghost use Rattle.shogi_core.specs.Sets.{KeepsSquares};
@@ -63,6 +63,13 @@ fn first_stepper(board: &Board, among: Squares, square: Square) -> Option<Square
         }
     }
     None
+}
+
+/// The pieces in `among` that reach the square by a step or a jump.
+fn steppers_among(board: &Board, among: Squares, square: Square) -> Squares
+    ensures { HasBits result.bits (is_step_among board.now among.bits square) }
+{
+    (near_squares(square) & among).sift(|from| steps_to(board.at(from), from, square))
 }
 
 /// Whether a piece among `among` attacks the square by step or jump.
@@ -245,6 +252,50 @@ fn slider_attacks_among(board: &Board, square: Square, snipers: Squares, occupie
     false
 }
 
+/// The sniper that slides to the square against the direction, if one does, while pieces stand on the
+/// occupied squares.
+fn first_slider(
+    board: &Board,
+    square: Square,
+    direction: Direction,
+    snipers: Squares,
+    occupied: Squares,
+) -> Option<Square>
+    ensures range { IfSome result (λ n. n < 81) }
+    ensures slider { FindsSlider board.now square direction snipers.bits occupied.bits result }
+{
+    direction.reveal_invariant();
+    square.reveal_invariant();
+    if !has_sniper(direction, square, snipers) {
+        return None;
+    }
+    let Some(nearest) = first_occupied(occupied, direction, square) else {
+        return None
+    };
+    if !snipers.has(nearest) {
+        return None;
+    }
+    if !slides_back(board.at(nearest), direction) {
+        return None;
+    }
+    Some(nearest)
+}
+
+/// The snipers that slide to the square while pieces stand on the occupied squares.
+#[inline(never)]
+fn sliders_among(board: &Board, square: Square, snipers: Squares, occupied: Squares) -> Squares
+    ensures { TellsSliders board.now square snipers.bits occupied.bits result.bits }
+{
+    let mut found = Squares::none();
+    let mut left = Direction::all();
+    'directions: while let Some(direction) = left.next() {
+        if let Some(first) = first_slider(board, square, direction, snipers, occupied) {
+            found = found.with(first);
+        }
+    }
+    found
+}
+
 /// Whether one of the snipers in the direction slides back to the square. If none does, adds to
 /// `pinned` the piece of the side that alone shields the square from a sniper there.
 #[inline(never)]
@@ -387,6 +438,20 @@ impl Board {
             return false;
         }
         slider_attacks_among(self, square, snipers, occupied)
+    }
+
+    /// The pieces in `among` that reach the square while exactly the squares in `occupied` hold pieces. These
+    /// are the attackers of one side on any board whose pieces of that side all stand here as well.
+    pub fn reachers_among(&self, square: Square, among: Squares, occupied: Squares) -> Squares
+        ensures { TellsReachers self.now among.bits occupied.bits square result.bits }
+    {
+        square.reveal_invariant();
+        let near = steppers_among(self, among, square);
+        let lined = among & self.sliders() & line_mask(square);
+        if lined.bits == 0 {
+            return near;
+        }
+        near | sliders_among(self, square, lined, occupied)
     }
 
     /// Whether a king of the side is attacked. A side without a king is never in check.
