@@ -40,7 +40,7 @@ USUAL = {
     "minimax": 13,
     "static_exchange": 38,
     "mate_search": 75,
-    "dull_moves": 79,
+    "analogous_moves": 79,
     "search_nodes": 150,
     "last_ply": 112,
     "shogi_search": 121,

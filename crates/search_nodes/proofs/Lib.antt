@@ -8,4 +8,4 @@ pub mod Passed
 pub mod Passing
 pub mod Rows
 pub mod AskedMoves
-pub mod DullRows
+pub mod AnalogousRows

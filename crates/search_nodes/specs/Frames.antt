@@ -137,6 +137,6 @@ abbrev pub priority_moves_at : List ℕ → Option Move → Frame → ℕ → Li
 priority_moves_at given hash_move f depth =
     with_each (with_some (with_some given hash_move) f.best_move) (killers_at f depth)
 
--- dull moves are looked for at the node: with two plies after them, or with three
-abbrev pub PrunesDull : Frame → Type 0
-PrunesDull f = (f.depth ≡ 3) ⊎ (f.depth ≡ 4)
+-- analogous moves are looked for at the node: with two plies after them, or with three
+abbrev pub PrunesAnalogous : Frame → Type 0
+PrunesAnalogous f = (f.depth ≡ 3) ⊎ (f.depth ≡ 4)

@@ -16,8 +16,8 @@ use Rattle.shogi_replies.specs.Passes.{IsSkipped, IsGuaranteedMove, IsGuaranteed
 use Rattle.shogi_moves.specs.Walks.{IsNextOf, TakesNext}
 use Rattle.shogi_moves.specs.declared.sweep.BoardSweep.{BoardSweep}
 use Rattle.shogi_moves.specs.declared.sweep.DropSweep.{DropSweep}
-use Rattle.dull_moves.specs.declared.moves.DullMoves.{DullMoves}
-use Rattle.dull_moves.specs.Dull.{IsAmong, IsOnSquares, IsQuietMove}
+use Rattle.analogous_moves.specs.declared.moves.AnalogousMoves.{AnalogousMoves}
+use Rattle.analogous_moves.specs.Analogies.{IsOneOf, IsOnSquares, IsQuietMove}
 use Rattle.minimax.specs.Minimax.{sum_of_tree_sizes, tree_size}
 use Rattle.search_nodes.specs.PriorityMoves.{legal_priority_moves}
 use Rattle.search_nodes.specs.declared.priority_moves.PriorityMoves.{PriorityMoves}
@@ -138,20 +138,20 @@ IsAtCode (Quiets priority_moves s) code = s.code ≡ code
 IsAtCode (Drops priority_moves s) code = s.code ≡ code
 IsAtCode Done code = ⊥
 
--- the code is that of a legal dull move, from a code on
-pub record IsDullFrom (p : Shogi) (d : DullMoves) (first code : ℕ) : Type 0 where
+-- the code is that of a legal analogous move, from a code on
+pub record IsAnalogousFrom (p : Shogi) (d : AnalogousMoves) (first code : ℕ) : Type 0 where
   pub above : first ≤ code
   pub move : Move
   pub is : code ≡ code_of move
   pub on_board : IsOnSquares move
-  pub among : IsAmong d move
+  pub among : IsOneOf d move
   pub quiet : IsQuietMove p move
   pub legal : is_legal p move ≡ true
 
--- where such moves are under way, some are skipped that are dull
-abbrev pub SkipsDull : Shogi → DullMoves → MovePicker → MovePicker → Type 0
-SkipsDull p d old new = (code : ℕ) → IsAtCode old code
-    → IsSkipped (IsDullFrom p d code) (todo p old) (todo p new)
+-- where such moves are under way, some are skipped that are analogous
+abbrev pub SkipsAnalogous : Shogi → AnalogousMoves → MovePicker → MovePicker → Type 0
+SkipsAnalogous p d old new = (code : ℕ) → IsAtCode old code
+    → IsSkipped (IsAnalogousFrom p d code) (todo p old) (todo p new)
 
 -- what the picker holds beside the codes is true of the position
 abbrev pub IsKept : Shogi → MovePicker → Type 0

@@ -9,7 +9,7 @@ ghost use Rattle.shogi_eval.specs.declared.points.TheConstants.{POINTS_MAX};
 ghost use Rattle.minimax.specs.Minimax.{value, negated};
 ghost use Rattle.minimax.specs.Entries.{IsConclusive};
 ghost use Rattle.minimax.specs.Window.{code_at, move_alpha};
-ghost use Rattle.dull_moves.specs.Dull.{AreDull};
+ghost use Rattle.analogous_moves.specs.Analogies.{AreAnalogous};
 ghost use Rattle.search_nodes.specs.Order.{codes_of, IsWithinTree, IsKept, IsKept-prop};
 ghost use Rattle.search_nodes.specs.Visits.{IsKnownSoFar, known_props, IsCurrent};
 ghost use Rattle.minimax.specs.declared.bounds.TheConstants.{SEARCH_DEPTH_MAX, INFINITY, MATE};
@@ -17,7 +17,7 @@ ghost use Rattle.minimax.specs.declared.bounds.TheConstants.{SEARCH_DEPTH_MAX, I
 use crate::move_picker::MovePicker;
 use crate::priority_moves::{KILLERS, PriorityMoves, with_killer};
 use crate::window::move_alpha_at;
-use dull_moves::DullMoves;
+use analogous_moves::AnalogousMoves;
 use minimax::{Entry, MATE};
 use shogi_core::Move;
 use shogi_eval::{Eval, Node};
@@ -41,7 +41,7 @@ pub struct Frame {
     pub node: Node,
     pub picker: MovePicker,
     /// Quiet moves that one reply refutes, once a reply was found that does.
-    pub dull: Option<DullMoves>,
+    pub analogous: Option<AnalogousMoves>,
     pub alpha: i32,
     pub beta: i32,
     pub best_value: i32,
@@ -51,9 +51,9 @@ pub struct Frame {
     /// Set once a move was gone through and not good enough, so that some move is legal.
     pub has_move: bool,
     /// How many replies were tried for that.
-    pub dull_tries: u8,
+    pub analogy_tries: u8,
     /// The last of them.
-    pub dull_reply: Option<Move>,
+    pub analogy_reply: Option<Move>,
     /// Codes of moves that cut off the last nodes of this place, the last one first.
     pub killers: [u16; KILLERS],
     ghost valid: { IsValid node.position },
@@ -64,7 +64,7 @@ pub struct Frame {
     ghost known: { IsKnownSoFar node depth alpha beta best_value best_move picker state } by { Prim.hlevel known_props },
     ghost moves: { has_move ≡ true → legal_codes node.position ≢ [] } by { Prim.hlevel props },
     ghost kept: { IsKept node.position picker } by { IsKept-prop node.position picker },
-    ghost refuted: { ForSome dull (AreDull node.position node.eval depth) } by { Prim.hlevel props },
+    ghost refuted: { ForSome analogous (AreAnalogous node.position node.eval depth) } by { Prim.hlevel props },
 }
 
 /// Whether some move is legal.
@@ -140,9 +140,9 @@ impl Frame {
         self.has_move = false;
         self.picker = MovePicker::new(depth, priority_moves);
         self.state = NodeState::Expanding;
-        self.dull = None;
-        self.dull_tries = 0;
-        self.dull_reply = None;
+        self.analogous = None;
+        self.analogy_tries = 0;
+        self.analogy_reply = None;
     }
 
     /// Whether some move is legal, which the position is asked only where it is not known yet.
@@ -318,9 +318,9 @@ impl Default for Frame {
             has_move: false,
             picker: MovePicker::Done,
             state: NodeState::Expanding,
-            dull: None,
-            dull_tries: 0,
-            dull_reply: None,
+            analogous: None,
+            analogy_tries: 0,
+            analogy_reply: None,
             killers: [0; KILLERS],
         }
     }

@@ -5,10 +5,10 @@ ghost use Rattle.shogi_core.specs.Attack.{in_check};
 ghost use Rattle.shogi_core.specs.Codes.{code_of};
 ghost use Rattle.shogi_moves.specs.Sweeps.{IsBoardSweep, IsDropSweep, board_left, drops_left};
 ghost use Rattle.shogi_replies.specs.Passes.{IsSkipped};
-ghost use Rattle.search_nodes.specs.Order.{codes_of, others_to_come, todo, todo_after, todo_from, IsAtCode, IsAtDrops, IsAtQuiets, IsDullFrom, IsKept, SkipsDull, SkipsDrops, SkipsQuiets, TakesBoardPick, TakesDropPick, TakesPriorityMove, TakesFirstDrop, TakesFirstQuiet, TakesFromSweep};
+ghost use Rattle.search_nodes.specs.Order.{codes_of, others_to_come, todo, todo_after, todo_from, IsAtCode, IsAtDrops, IsAtQuiets, IsAnalogousFrom, IsKept, SkipsAnalogous, SkipsDrops, SkipsQuiets, TakesBoardPick, TakesDropPick, TakesPriorityMove, TakesFirstDrop, TakesFirstQuiet, TakesFromSweep};
 
 use crate::priority_moves::PriorityMoves;
-use dull_moves::DullMoves;
+use analogous_moves::AnalogousMoves;
 use shogi_core::bits::lowest;
 use shogi_core::{Kind, Move, Position, SQUARE_CODES, Squares};
 use shogi_moves::{BoardSweep, DropSweep, KnownPosition, check_info_of};
@@ -63,18 +63,19 @@ fn next_drop(p: &Position, priority_moves: &PriorityMoves, sweep: &mut DropSweep
     None
 }
 
-/// Skips the destinations of the present piece, up to the first that is not dull.
-fn skip_dull_destinations(p: &Position, dull: &DullMoves, sweep: &mut BoardSweep)
+/// Skips the destinations of the present piece, up to the first that is not analogous.
+fn skip_analogous_destinations(p: &Position, analogous: &AnalogousMoves, sweep: &mut BoardSweep)
     requires consistent { IsBoardSweep p.now false sweep.old }
     ensures consistent { IsBoardSweep p.now false sweep.new }
-    ensures passed { IsSkipped (IsDullFrom p.now dull.now sweep.old.code)
+    ensures passed { IsSkipped (IsAnalogousFrom p.now analogous.now sweep.old.code)
         (board_left p.now false sweep.old) (board_left p.now false sweep.new) }
 {
     sweep.from.reveal_invariant();
-    if !dull.pieces.has(sweep.from) {
+    if !analogous.pieces.has(sweep.from) {
         return;
     }
-    let others = sweep.destinations.non_promoting.without(dull.ends) | sweep.destinations.promoting;
+    let others = sweep.destinations.non_promoting.without(analogous.ends)
+        | sweep.destinations.promoting;
     if others.is_empty() {
         sweep.skip_destinations(p, false, 81);
         return;
@@ -85,14 +86,14 @@ fn skip_dull_destinations(p: &Position, dull: &DullMoves, sweep: &mut BoardSweep
     }
 }
 
-/// Skips the drops of the present kind, up to the first that is not dull.
-fn skip_dull_drops(p: &Position, dull: &DullMoves, sweep: &mut DropSweep)
+/// Skips the drops of the present kind, up to the first that is not analogous.
+fn skip_analogous_drops(p: &Position, analogous: &AnalogousMoves, sweep: &mut DropSweep)
     requires consistent { IsDropSweep p.now sweep.old }
     ensures consistent { IsDropSweep p.now sweep.new }
-    ensures passed { IsSkipped (IsDullFrom p.now dull.now sweep.old.code)
+    ensures passed { IsSkipped (IsAnalogousFrom p.now analogous.now sweep.old.code)
         (drops_left p.now sweep.old) (drops_left p.now sweep.new) }
 {
-    let others = sweep.destinations.without(dull.drops.of(sweep.kind));
+    let others = sweep.destinations.without(analogous.drops.of(sweep.kind));
     if others.is_empty() {
         sweep.skip_destinations(p, 81);
         return;
@@ -331,19 +332,19 @@ impl MovePicker {
     }
 
     /// Skips the next moves to visit, as long as they are quiet moves of the present piece, or drops of
-    /// the present kind, that are dull.
+    /// the present kind, that are analogous.
     #[tactic(auto, using(crate::proofs::MatchingOthers::passing_others))]
-    pub(crate) fn skip_dull(&mut self, p: &Position, dull: &DullMoves)
+    pub(crate) fn skip_analogous(&mut self, p: &Position, analogous: &AnalogousMoves)
         requires consistent { IsKept p.now self.old }
         ensures consistent { IsKept p.now self.new }
-        ensures passed { SkipsDull p.now dull.now self.old self.new }
+        ensures passed { SkipsAnalogous p.now analogous.now self.old self.new }
     {
         if let MovePicker::Quiets(_, sweep) = self {
-            skip_dull_destinations(p, dull, sweep);
+            skip_analogous_destinations(p, analogous, sweep);
             return;
         }
         if let MovePicker::Drops(_, sweep) = self {
-            skip_dull_drops(p, dull, sweep);
+            skip_analogous_drops(p, analogous, sweep);
         }
     }
 

@@ -2,21 +2,21 @@
 
 ghost use Rattle.std.specs.Prelude.{◌≡◌, ◌≤ℤ◌, ◌<ℤ◌, pos, true, false};
 ghost use Rattle.minimax.specs.declared.bounds.TheConstants.{INFINITY};
-ghost use Rattle.dull_moves.specs.Dull.{IsQuietMove};
+ghost use Rattle.analogous_moves.specs.Analogies.{IsQuietMove};
 
 use crate::asked_move::AskedMove;
 use crate::frame::{Frame, NodeState};
 use crate::pre_frontier::PreFrontier;
 use crate::reply_cache::ReplyCache;
-use dull_moves::DullMoves;
+use analogous_moves::AnalogousMoves;
 use shogi_core::Move;
 use shogi_eval::loss_of_drops;
 
 // How many replies to moves of a node are tried for refuting others.
-const DULL_TRIES_MAX: u8 = 8;
+const ANALOGY_TRIES_MAX: u8 = 8;
 
 impl Frame {
-    ghost use Rattle.search_nodes.specs.Frames.{IsLost, PrunesDull, RepliesLoseAtMost};
+    ghost use Rattle.search_nodes.specs.Frames.{IsLost, PrunesAnalogous, RepliesLoseAtMost};
     ghost use Rattle.search_nodes.specs.ReplyCache.{IsFoundAt, IsPreFrontier};
     ghost use Rattle.search_nodes.specs.Changes.{IsSame, KeepsMoves, AsksFor, PrunesFiltered};
 
@@ -96,7 +96,7 @@ impl Frame {
 
     /// Whether the reply was the last one that was tried for refuting moves.
     fn was_tried(&self, reply: &Move) -> bool {
-        match &self.dull_reply {
+        match &self.analogy_reply {
             Some(tried) => tried == reply,
             None => false,
         }
@@ -104,20 +104,23 @@ impl Frame {
 
     /// Looks for moves that the reply refutes, none of which is worth more than so much, if few replies
     /// were tried.
-    fn look_for_dull(&mut self, reply: &Option<Move>, most: i32)
-        requires deep { PrunesDull self.old }
+    fn look_for_analogous(&mut self, reply: &Option<Move>, most: i32)
+        requires deep { PrunesAnalogous self.old }
         requires most { most <ℤ INFINITY }
         ensures { KeepsMoves self.old self.new }
     {
         let Some(reply) = reply else {
             return;
         };
-        if self.dull.is_some() || self.dull_tries >= DULL_TRIES_MAX || self.was_tried(reply) {
+        if self.analogous.is_some()
+            || self.analogy_tries >= ANALOGY_TRIES_MAX
+            || self.was_tried(reply)
+        {
             return;
         }
-        self.dull_tries += 1;
-        self.dull_reply = Some(*reply);
-        self.dull = DullMoves::of(&self.node, *reply, most, self.depth);
+        self.analogy_tries += 1;
+        self.analogy_reply = Some(*reply);
+        self.analogous = AnalogousMoves::of(&self.node, *reply, most, self.depth);
     }
 
     /// Whether the current move takes nothing and does not promote.
@@ -132,73 +135,74 @@ impl Frame {
         }
     }
 
-    /// Whether dull moves are looked for there: at depths 3 and 4.
+    /// Whether analogous moves are looked for there: at depths 3 and 4.
     #[inline(always)]
-    fn prunes_dull(&self) -> bool
-        ensures { result ≡ true → PrunesDull self.now }
+    fn prunes_analogous(&self) -> bool
+        ensures { result ≡ true → PrunesAnalogous self.now }
     {
         self.depth == 3 || self.depth == 4
     }
 
     /// Prunes the current move where it is a quiet one that the reply to a move before it refutes as
     /// well, since it changes nothing of what that leaves; whether it did.
-    fn prune_dull(&mut self, current: &Move, reply: &Option<Move>) -> bool
+    fn prune_analogous(&mut self, current: &Move, reply: &Option<Move>) -> bool
         requires asked { self.old.state ≡ NodeState.AwaitingChild current.now }
         ensures next { result ≡ true → self.new.state ≡ NodeState.Expanding }
         ensures asked { result ≡ false → self.new.state ≡ self.old.state }
         ensures picker { self.new.picker ≡ self.old.picker }
         ensures unchanged { IsSame self.old self.new }
     {
-        if !self.prunes_dull() || !self.is_quiet(current) {
+        if !self.prunes_analogous() || !self.is_quiet(current) {
             return false;
         }
         if !self.has_move && self.best_move.is_none() {
             return false;
         }
         let move_alpha = self.move_alpha(current);
-        self.look_for_dull(reply, move_alpha);
+        self.look_for_analogous(reply, move_alpha);
         current.reveal_invariant();
-        let Some(dull) = &self.dull else {
+        let Some(analogous) = &self.analogous else {
             return false;
         };
-        if dull.most > move_alpha || !dull.has(current) {
+        if analogous.most > move_alpha || !analogous.has(current) {
             return false;
         }
         self.fail_low();
         true
     }
 
-    /// Prunes the next moves that are dull: those of the piece, or the drops of the kind, that is under
+    /// Prunes the next moves that are analogous: those of the piece, or the drops of the kind, that is under
     /// way, up to the first that is not.
-    fn prune_dull_row(&mut self)
+    fn prune_analogous_row(&mut self)
         requires next { self.old.state ≡ NodeState.Expanding }
         ensures { PrunesFiltered self.old self.new }
     {
         let Some(code) = self.picker.quiet_code() else {
             return;
         };
-        if !self.prunes_dull() || self.dull.is_none() {
+        if !self.prunes_analogous() || self.analogous.is_none() {
             return;
         }
         let move_alpha = self.move_alpha_at(code);
-        let Some(dull) = &self.dull else {
+        let Some(analogous) = &self.analogous else {
             return;
         };
-        if dull.most <= move_alpha {
-            self.picker.skip_dull(self.node.as_position(), dull);
+        if analogous.most <= move_alpha {
+            self.picker
+                .skip_analogous(self.node.as_position(), analogous);
         }
     }
 
-    /// Asks for the answer of the next move from depth 3 on, where dull moves are pruned.
+    /// Asks for the answer of the next move from depth 3 on, where analogous moves are pruned.
     fn next_unrefuted(&mut self, reply: &Option<Move>) -> Option<Move>
         requires next { self.old.state ≡ NodeState.Expanding }
         ensures { AsksFor result self.old self.new }
     {
         'moves: while let Some(current) = self.pick_move() {
-            if !self.prune_dull(&current, reply) {
+            if !self.prune_analogous(&current, reply) {
                 return Some(current);
             }
-            self.prune_dull_row();
+            self.prune_analogous_row();
         }
         None
     }

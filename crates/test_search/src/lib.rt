@@ -4,11 +4,11 @@
 #[cfg(test)]
 mod agreement;
 #[cfg(test)]
+mod analogous;
+#[cfg(test)]
 mod assertions;
 #[cfg(test)]
 mod below;
-#[cfg(test)]
-mod dull;
 #[cfg(test)]
 mod exchanges;
 #[cfg(test)]

@@ -1,7 +1,7 @@
 use Rattle.std.proofs.Common.{◌-◌, ◌≡◌, None, Some}
 use Rattle.minimax.specs.Minimax.{worth}
 use Rattle.search_nodes.proofs.Nodes.{new_node}
-use Rattle.dull_moves.specs.declared.moves.DullMoves.{DullMoves}
+use Rattle.analogous_moves.specs.declared.moves.AnalogousMoves.{AnalogousMoves}
 use Rattle.search_nodes.proofs.frame.Frame.enter.Goals as goal
 
 pub invariant_of-self-clause-known : goal.invariant_of-self-clause-known
@@ -18,4 +18,4 @@ no_some : (A : Type 0) (x : A) → None ≡ Some x → ⊥
 no_some A x e = cc
 
 pub invariant_of-self-clause-refuted : goal.invariant_of-self-clause-refuted
-invariant_of-self-clause-refuted c = λ moves e. absurd (no_some DullMoves moves e)
+invariant_of-self-clause-refuted c = λ moves e. absurd (no_some AnalogousMoves moves e)

@@ -7,4 +7,4 @@ use Rattle.search_nodes.proofs.frame.Frame.next_unrefuted.Goals as goal
 
 pub moves-smaller : goal.moves-smaller
 moves-smaller c =
-    omega (arith, left_kept c.pick_move.new.self c.prune_dull.new.self c.prune_dull.ensures.unchanged c.prune_dull.ensures.picker, c.in-Some.ensures.1.1.0, tree_size-positive (after_code c.pick_move.new.self.node.position (code_of c.in-Some.current)) (c.pick_move.new.self.depth - 1))
+    omega (arith, left_kept c.pick_move.new.self c.prune_analogous.new.self c.prune_analogous.ensures.unchanged c.prune_analogous.ensures.picker, c.in-Some.ensures.1.1.0, tree_size-positive (after_code c.pick_move.new.self.node.position (code_of c.in-Some.current)) (c.pick_move.new.self.depth - 1))

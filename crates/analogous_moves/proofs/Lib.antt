@@ -1,0 +1,15 @@
+pub mod Squares
+pub mod Passing
+pub mod Commuting
+pub mod Materials
+pub mod StillLegal
+pub mod Worth
+pub mod BoardMoves
+pub mod UnthreateningLaws
+pub mod Lifting
+pub mod AnalogyLaws
+pub mod Sets
+pub mod PassedReplyLaws
+pub mod Unchecked
+pub mod SpareMoves
+pub mod ExposingLaws

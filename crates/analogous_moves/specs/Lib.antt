@@ -1,0 +1,3 @@
+pub mod Analogies
+pub mod PassedReplies
+pub mod SpareMoves
