@@ -14,7 +14,7 @@ reply_squares-requires-clause-only_king c = rw (c.opponent.ensures, c.side.ensur
 
 pub invariant_of-result : goal.invariant_of-result
 invariant_of-result c =
-    let same : c.board.result ≡ c.args.node.position.cells = rw c.as_position-p.ensures at c.board.ensures in
+    let same : c.board-board.result ≡ c.args.node.position.cells = rw c.as_position-p.ensures at c.board-board.ensures in
     let v : IsValid c.args.node.position = rw c.as_position-p.ensures at c.reveal_invariant.ensures in
     let stands : KingHasReplies c.args.quiet_only c.args.node.position c.in_ok-king.king c.reply_squares.result.bits = record {
       cells_fit = v.cells_fit;
@@ -31,4 +31,4 @@ invariant_of-result c =
     }
 
 pub returns-clause-board : goal.returns-clause-board
-returns-clause-board c = rw c.as_position-p.ensures at c.board.ensures
+returns-clause-board c = rw c.as_position-p.ensures at c.board-board.ensures
