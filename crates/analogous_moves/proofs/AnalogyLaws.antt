@@ -1,4 +1,4 @@
--- What changes nothing of what a reply refutes is worth no more than what that leaves.
+-- A drop or quiet move that changes nothing the refutation relies on is worth no more than the bound.
 use Rattle.std.proofs.Common.{◌≡◌, ◌≢◌, ℕ, ℤ, pos, ◌-◌, ◌^◌, ◌<◌, bit_and, bit_or, ◌+ℤ◌, ◌≤ℤ◌, Bool, true, false, Option, None, refl, sym, ap, subst, ◌∙◌, inl, inr, arith, set, length, length-set, get_or, get_or-set_same, get_or-set_other}
 use Rattle.std.specs.Prelude.{is_none}
 use Rattle.std.proofs.lemmas.Bool.{both_ways, cases_eq, ltb-true, or_parts}
@@ -45,13 +45,13 @@ use Rattle.analogous_moves.proofs.Worth.{AreAtMost, IsBoundedAndAnswered, reply_
 abbrev pub after_drop : Shogi → Kind → ℕ → Shogi
 after_drop q kind b = put_on q (dropped q.side kind) (hands_after q.hands q.cells q.side (Drop kind b)) b
 
--- after a drop and the reply stands what the drop leaves after a pass and the reply
+-- a drop and then the reply leave the board that a pass, the reply and then the drop leave
 as_left : (p : Shogi) (kind : Kind) (b : ℕ) (r : Move) → IsClearOf r b → after (after p (Drop kind b)) r ≡ after_drop (after_reply p r) kind b
 as_left p kind b r spared =
     commute p kind b r spared.0
     ∙ ap (λ (color : Color). record { cells = (after_drop (after_reply p r) kind b).cells; hands = (after_drop (after_reply p r) kind b).hands; side = color }) (opponent_twice (after_reply p r).side)
 
--- a side holds no more of a kind after a drop
+-- after a drop, a side has in hand only kinds that it had before
 place_below : (side : Color) (kind : Kind) → place_of side kind < 14
 place_below Black kind = let low : kind_number kind < 7 = number_below kind in omega (arith, low)
 place_below White kind = let low : kind_number kind < 7 = number_below kind in omega (arith, low)
@@ -66,16 +66,16 @@ held_before q kind b held other some = elim (cases_eq (place_of q.side other) (p
   | inr off ↦ subst (λ (n : ℕ). 0 < n) (get_or-set_other q.hands (place_of q.side kind) (place_of q.side other) (count_in_hand q.hands q.side kind - 1) 0 off) some
 ]
 
--- what reaches no king from a square once that is lifted reaches none before, for the reply's side
+-- a piece that does not attack the king on the board without it gives no check, after a pass and the reply
 harmless_after : (p : Shogi) (r : Move) (king : ℕ) (cells : Cells) (cell : Option Piece) (b : ℕ) → length cells ≡ 81 → king < 81 → HasNoOtherKing (after_reply p r).cells (opponent_of (after_reply p r).side) king → ((x : ℕ) → is_none (piece_at (after_reply p r).cells x) ≡ true → is_none (piece_at cells x) ≡ true)
     → cell_reaches (set cells king None) cell b king ≡ false → IsHarmless (after_reply p r).cells (opponent_of p.side) cell b
 harmless_after p r king cells cell b len low only_king emptied far = subst (λ (color : Color). IsHarmless (after_reply p r).cells color cell b) (ap opponent_of (opponent_twice p.side)) (harmless_there (after_reply p r).cells (opponent_of (after_reply p r).side) king cells cell b len low only_king emptied far)
 
--- the reply does not touch the squares of the set, and the shut ones are not among them
+-- the squares of the set are clear of the reply and outside those kept empty
 abbrev AreSpared : Move → ℕ → ℕ → Type 0
 AreSpared r kept_empty set = (n : ℕ) → n < 81 → has_bit set n ≡ true → IsClearOf r n × (has_bit kept_empty n ≡ false)
 
--- so are those of a set without both
+-- a set without the squares of the reply and those kept empty is spared
 pub spared_among : (r : Move) (kept_empty touched both free among set : ℕ) → CoversMove r touched → both ≡ bit_or touched kept_empty → both < 2 ^ 81 → among ≡ bit_and free (2 ^ 128 - 1 - both) → ((n : ℕ) → has_bit set n ≡ true → has_bit among n ≡ true) → AreSpared r kept_empty set
 spared_among r kept_empty touched both free among set spared join fits meet within n h on =
     let out : has_bit both n ≡ false = (out_parts free both n fits h (sym (ap (λ (m : ℕ). has_bit m n) meet) ∙ within n on)).1 in
@@ -107,18 +107,18 @@ analogous quiet_only depth p e kind b r gains king squares kept_empty t told v s
     let bounds : IsBoundedAndAnswered quiet_only (after_drop (after_reply p r) kind b) e t = bounded quiet_only (after_reply p r) e gains king squares kept_empty (dropped (after_reply p r).side kind) (hands_after (after_reply p r).hands (after_reply p r).cells (after_reply p r).side (Drop kind b)) b vq.cells_fit (dropped_of (after_reply p r).side kind) (held_before (after_reply p r) kind b vq.hands_fit) on bare off no_threats unthreatening vw t less in
     reply_at_most quiet_only p e depth (Drop kind b) r t told on there l (subst (λ (q : Shogi). AreAtMost q e depth t) (sym same) (bounded_at_most quiet_only (after_drop (after_reply p r) kind b) e depth t told vw low bounds))
 
--- so is none of its kind on squares that are spared and idle
+-- no drop of the kind on spared, unthreatening squares is worth more than the bound
 drops_analogous : (quiet_only : Bool) (depth : ℕ) (p : Shogi) (e : Eval) (kind : Kind) (r : Move) (gains king squares kept_empty : ℕ) (t : ℤ) (unthreatening : ℕ) → ReplySuffices quiet_only e depth → IsValid p → in_check p.cells p.side ≡ false → IsOnSquares r → is_legal (passed p) r ≡ true → is_pawn_drop r ≡ false → AreSpared r kept_empty unthreatening
     → HasNoThreats quiet_only (after_reply p r) e gains king squares kept_empty → AreUnthreatening quiet_only (after_reply p r) e gains king squares (dropped (after_reply p r).side kind) unthreatening → lost_value 1 ≤ℤ t → (material_of (after_reply p r) e +ℤ pos gains) ≤ℤ t → DropsAreWorthAtMost p e depth t kind unthreatening
 drops_analogous quiet_only depth p e kind r gains king squares kept_empty t unthreatening told v safe there lr plain spared no_threats all low room to h set legal =
     analogous quiet_only depth p e kind to r gains king squares kept_empty t told v safe h there legal lr plain (spared to h set).0 (spared to h set).1 no_threats (all to h set) low room
 
--- a side that drops a piece after a pass and a reply held one before
+-- a side that may drop a kind has that kind in hand after a pass and a reply
 held_there : (p : Shogi) (kind : Kind) (b : ℕ) (r : Move) → is_legal p (Drop kind b) ≡ true → 0 < count_in_hand (after_reply p r).hands (after_reply p r).side kind
 held_there p kind b r legal =
     subst (λ (n : ℕ). 0 < n) (sym (other_counts (passed p) r kind ∙ ap (λ (color : Color). count_in_hand p.hands color kind) (opponent_twice p.side))) (ltb-true 0 (count_in_hand p.hands p.side kind) (drop_parts p kind b legal).0)
 
--- the same of a position that is that one, where the squares are idle if a piece of the kind is held
+-- drops are bounded if the position is that after a pass and the reply, and the squares are unthreatening if the kind is in hand
 pub replied_analogous : (quiet_only : Bool) (depth : ℕ) (p q : Shogi) (e f : Eval) (kind : Kind) (r : Move) (gains king squares kept_empty : ℕ) (t : ℤ) (unthreatening : ℕ) → ReplySuffices quiet_only e depth → q ≡ after_reply p r → f ≡ e → IsValid p → in_check p.cells p.side ≡ false → IsOnSquares r → is_legal (passed p) r ≡ true → is_pawn_drop r ≡ false → AreSpared r kept_empty unthreatening
     → HasNoThreats quiet_only q f gains king squares kept_empty → lost_value 1 ≤ℤ t → (material_of q f +ℤ pos gains) ≤ℤ t → (0 < count_in_hand q.hands q.side kind → AreUnthreatening quiet_only q f gains king squares (dropped q.side kind) unthreatening) → DropsAreWorthAtMost p e depth t kind unthreatening
 replied_analogous quiet_only depth p q e f kind r gains king squares kept_empty t unthreatening told is alike v safe there lr plain spared no_threats low room each to h set legal =
@@ -158,7 +158,7 @@ quiet_is_analogous quiet_only depth p e a b r gains king squares kept_empty t to
       | inr off ↦ ap is_none (get_or-set_other (after_reply p r).cells a x None None off) ∙ n
     ]
 
--- the same of a position that is that one, for pieces that are lifted there and ends on which they are idle
+-- quiet moves are bounded if the position is that after a pass and the reply, and each piece, once lifted, makes no threat on its ends
 pub replied_quiets : (quiet_only : Bool) (depth : ℕ) (p q : Shogi) (e f : Eval) (r : Move) (gains king squares kept_empty : ℕ) (t : ℤ) (pieces ends : ℕ) → ReplySuffices quiet_only e depth → q ≡ after_reply p r → f ≡ e → IsValid p → in_check p.cells p.side ≡ false → IsOnSquares r → is_legal (passed p) r ≡ true → is_pawn_drop r ≡ false → AreSpared r kept_empty ends
     → HasNoThreats quiet_only q f gains king squares kept_empty → lost_value 1 ≤ℤ t → (material_of q f +ℤ pos gains) ≤ℤ t → ((a : ℕ) → a < 81 → has_bit pieces a ≡ true → IsOff r a)
     → ((a : ℕ) → a < 81 → has_bit pieces a ≡ true → IsOffOpenLines q king squares a) → ((a : ℕ) → a < 81 → has_bit pieces a ≡ true → HasNoThreats quiet_only (lifted q a) f gains king squares kept_empty)
@@ -171,13 +171,13 @@ replied_quiets quiet_only depth p q e f r gains king squares kept_empty t pieces
     (subst (λ (x : Shogi). IsUnthreatening quiet_only (lifted x from) e gains king squares (piece_at x.cells from) to) is (subst (λ (y : Eval). IsUnthreatening quiet_only (lifted q from) y gains king squares (piece_at q.cells from) to) alike (unthreatening from to hf ht mine on (legal_owns p from to legal).1))) low
     (subst (λ (x : Shogi). (material_of x e +ℤ pos gains) ≤ℤ t) is (subst (λ (y : Eval). (material_of q y +ℤ pos gains) ≤ℤ t) alike room))
 
--- a piece that the reply leaves alone stands there after it
+-- a piece off the squares of the reply stands there after it
 pub own_stays : (p q : Shogi) (r : Move) (a : ℕ) → q ≡ after_reply p r → IsOff r a → is_piece_of p.side (piece_at p.cells a) ≡ true → is_piece_of q.side (piece_at q.cells a) ≡ true
 own_stays p q r a is off own =
     subst (λ (x : Shogi). is_piece_of x.side (piece_at x.cells a) ≡ true) (sym is)
     (ap (λ (color : Color). is_piece_of color (piece_at (after_reply p r).cells a)) (opponent_twice p.side) ∙ (ap (is_piece_of p.side) (stands p.cells (opponent_of p.side) r a off) ∙ own))
 
--- so no quiet move that is among these is worth more
+-- no legal quiet move that the sets hold is worth more than the bound
 pub all_analogous : (p : Shogi) (e : Eval) (depth : ℕ) (d : AnalogousMoves) → ((kind : Kind) → DropsAreWorthAtMost p e depth d.most kind (drops_of d.drops kind).bits) → QuietsAreWorthAtMost p e depth d.most d.pieces.bits d.ends.bits → AreAnalogous p e depth d
 all_analogous p e depth d drops quiets (Board from to promote) on among quiet legal =
     subst (λ (x : Bool). MoveIsWorthAtMost p e depth d.most (Board from to x)) (sym quiet.0)

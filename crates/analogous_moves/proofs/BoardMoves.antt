@@ -1,4 +1,4 @@
--- A move on the board that takes nothing and does not promote, and a reply that lets it be, may be made in either order.
+-- A quiet board move and a reply clear of it may be made in either order.
 use Rattle.std.proofs.Common.{◌≡◌, ℕ, ℤ, pos, ◌+◌, ◌<◌, ◌+ℤ◌, Bool, true, false, Option, Some, None, refl, sym, ap, subst, ◌∙◌, arith, inl, inr, set, length, length-set, get_or-set_same, get_or-set_other}
 use Rattle.std.proofs.lemmas.Bool.{and_left, both_ways}
 use Rattle.std.proofs.lemmas.Int.{ints}
@@ -31,21 +31,21 @@ use Rattle.analogous_moves.proofs.Worth.{AreAtMost, reply_at_most}
 
 -- ---- in either order
 
--- what is written on a square that a move is off may be written before it or after it
+-- a write to a square that a move neither leaves nor enters commutes with the move
 write_commutes : (cells : Cells) (side : Color) (n : ℕ) (cell : Option Piece) (r : Move) → IsOff r n → cells_after (set cells n cell) side r ≡ set (cells_after cells side r) n cell
 write_commutes cells side n cell (Board c d promotes) off =
     ap (λ (here : Option Piece). set (set (set cells n cell) c None) d (piece_moved promotes here)) (get_or-set_other cells n c cell None (other_way n c off.0))
     ∙ one_by_two cells n c d cell None (piece_moved promotes (piece_at cells c)) off.0 off.1
 write_commutes cells side n cell (Drop kind d) off = set_comm cells n d cell (dropped side kind) off
 
--- so may what stood on one square be put on another one
+-- a quiet move between two such squares commutes with the move
 board_commutes : (cells : Cells) (s t : Color) (a b : ℕ) (r : Move) → IsOff r a → IsOff r b → cells_after (cells_after cells s (Board a b false)) t r ≡ set (set (cells_after cells t r) a None) b (piece_at cells a)
 board_commutes cells s t a b r off apart =
     ap (λ (cell : Option Piece). cells_after (set (set cells a None) b cell) t r) (unmoved (piece_at cells a))
     ∙ write_commutes (set cells a None) t b (piece_at cells a) r apart
     ∙ ap (λ (old : Cells). set old b (piece_at cells a)) (write_commutes cells t a None r off)
 
--- a move that takes nothing leaves the hands, and a reply off its squares takes what it would take before
+-- a quiet move leaves the hands, and a reply off its squares captures the same piece as before
 hands_kept : (hands : HandCounts) (cells : Cells) (s t : Color) (a b : ℕ) (r : Move) → piece_at cells b ≡ None → IsOff r a → IsOff r b → hands_after (hands_after hands cells s (Board a b false)) (cells_after cells s (Board a b false)) t r ≡ hands_after hands cells t r
 hands_kept hands cells s t a b (Board c d promotes) bare off apart =
     ap (λ (cell : Option Piece). with_captured (with_captured hands s (piece_at cells b)) t cell) (stands cells s (Board a b false) d (other_way a d off.1, other_way b d apart.1))
@@ -53,7 +53,7 @@ hands_kept hands cells s t a b (Board c d promotes) bare off apart =
 hands_kept hands cells s t a b (Drop kind d) bare off apart =
     ap (λ (cell : Option Piece). hands_after (with_captured hands s cell) cells t (Drop kind d)) bare
 
--- such a move and a reply leave what the reply leaves after a pass, with the piece on the other square
+-- a quiet move and a reply off its squares leave the position after a pass and the reply, with the piece on its new square
 pub commute_board : (p : Shogi) (a b : ℕ) (r : Move) → piece_at p.cells b ≡ None → IsOff r a → IsOff r b → after (after p (Board a b false)) r ≡ placed (lifted (after_reply p r) a) (piece_at p.cells a) b
 commute_board p a b r bare off apart =
     ap (λ (cells : Cells). position cells (after (after p (Board a b false)) r).hands (opponent_of (opponent_of p.side))) (board_commutes p.cells p.side (opponent_of p.side) a b r off apart)
@@ -74,7 +74,7 @@ module _ (q : Cells) (side : Color) (cell : Option Piece) (a b : ℕ) (len : len
     ]
   ]
 
-  -- a piece in whose place no king is seen, and which reaches none from where it is put, gives no check
+  -- a piece gives no check by moving if no enemy king is on an open line with its old square and it attacks none from its new one
   board_unchecked : is_lined_with_king q (opponent_of side) a ≡ false → IsHarmless q (opponent_of side) cell b → in_check q (opponent_of side) ≡ false → in_check moved (opponent_of side) ≡ false
   board_unchecked free far safe =
       unchecked_by q moved side (λ x. x ≡ a) b cell hb own (look q side a b cell len ha hb)
@@ -82,7 +82,7 @@ module _ (q : Cells) (side : Color) (cell : Option Piece) (a b : ℕ) (len : len
       (λ x left. subst (λ (y : ℕ). is_lined_with_king q (opponent_of side) y ≡ false) (sym left) free)
       far safe
 
--- the reply may be made, apart from checks
+-- the reply stays pseudo-legal
 pseudo_kept : (p : Shogi) (a b : ℕ) (r : Move) → IsValid p → a < 81 → b < 81 → IsOnSquares r → is_piece_of p.side (piece_at p.cells a) ≡ true → IsClearOf r b → is_pseudo_legal (passed p) r ≡ true → is_pseudo_legal (after p (Board a b false)) r ≡ true
 pseudo_kept p a b (Board c d promotes) v ha hb there own spared e =
     pseudo_board p.cells (cells_after p.cells p.side (Board a b false)) (opponent_of p.side) b c d promotes (left_board p a b false v ha hb own) (other_way b c spared.0.0) spared.1 e
@@ -102,7 +102,7 @@ still_legal_board p a b r v ha hb there lm lr plain off spared free far =
 
 -- ---- the material
 
--- a reply off the squares of the move gains what it would gain before
+-- a reply off the squares of the move gains what it gains after a pass
 gain_same : (p : Shogi) (e : Eval) (a b : ℕ) (r : Move) → IsOff r a → IsOff r b → gain_of (after p (Board a b false)) e r ≡ gain_of p e r
 gain_same p e a b (Board c d promotes) off apart =
     ap (λ (cell : Option Piece). pos (taken_gain e cell + promotion_gain promotes (piece_at (cells_after p.cells p.side (Board a b false)) c))) (stands p.cells p.side (Board a b false) d (other_way a d off.1, other_way b d apart.1))
@@ -113,13 +113,13 @@ no_promotion : (cell : Option Piece) → promotion_gain false cell ≡ 0
 no_promotion None = refl
 no_promotion (Some piece) = refl
 
--- and the move gains nothing
+-- a quiet move gains nothing
 no_gain : (p : Shogi) (e : Eval) (a b : ℕ) → piece_at p.cells b ≡ None → gain_of p e (Board a b false) ≡ pos 0
 no_gain p e a b bare =
     ap (λ (cell : Option Piece). pos (taken_gain e cell + promotion_gain false (piece_at p.cells a))) bare
     ∙ ap (λ (n : ℕ). pos (0 + n)) (no_promotion (piece_at p.cells a))
 
--- so the material is that after a pass and the reply
+-- the material after the move and the reply is that after a pass and the reply
 pub material_board : (p : Shogi) (e : Eval) (a b : ℕ) (r : Move) → IsValid p → in_check p.cells p.side ≡ false → a < 81 → b < 81 → IsOnSquares r → is_legal p (Board a b false) ≡ true → piece_at p.cells b ≡ None → is_legal (passed p) r ≡ true → IsOff r a → IsOff r b → is_legal (after p (Board a b false)) r ≡ true
     → material_of (after (after p (Board a b false)) r) e ≡ material_of (after_reply p r) e
 material_board p e a b r v unchecked ha hb there lm bare lr off apart l =
@@ -129,7 +129,7 @@ material_board p e a b r v unchecked ha hb there lm bare lr off apart l =
 
 -- ---- what the move is worth
 
--- no more than what is left, if that is worth so much where it is valid and its material is that after a pass and the reply
+-- a quiet move is worth at most `t` if the position after a pass and the reply, with the piece moved, is; that position may be taken as valid, with unchanged material
 pub quiet_analogous : (quiet_only : Bool) (p : Shogi) (e : Eval) (depth a b : ℕ) (r : Move) (t : ℤ) → ReplySuffices quiet_only e depth → IsValid p → in_check p.cells p.side ≡ false → a < 81 → b < 81 → IsOnSquares r → is_legal p (Board a b false) ≡ true → piece_at p.cells b ≡ None → is_legal (passed p) r ≡ true → is_pawn_drop r ≡ false → IsOff r a → IsClearOf r b
     → is_lined_with_king (after_reply p r).cells (opponent_of p.side) a ≡ false → IsHarmless (after_reply p r).cells (opponent_of p.side) (piece_at p.cells a) b
     → (IsValid (placed (lifted (after_reply p r) a) (piece_at p.cells a) b) → material_of (placed (lifted (after_reply p r) a) (piece_at p.cells a) b) e ≡ material_of (after_reply p r) e → AreAtMost (placed (lifted (after_reply p r) a) (piece_at p.cells a) b) e depth t)

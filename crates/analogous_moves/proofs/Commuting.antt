@@ -1,4 +1,4 @@
--- A drop and a move of the other side that is off its square may be made in either order.
+-- A drop and a move of the other side that is clear of its square may be made in either order.
 use Rattle.std.proofs.Common.{◌≡◌, ◌≢◌, ℕ, ◌+◌, ◌-◌, ◌<◌, List, Option, Some, None, refl, sym, ap, ◌∙◌, arith, set, get_or-set_other}
 use Rattle.std.proofs.lemmas.List.{set_comm}
 use Rattle.shogi_core.specs.declared.moves.Move.{Move}
@@ -16,7 +16,7 @@ use Rattle.analogous_moves.specs.Analogies.{IsOff, after_reply, passed}
 
 -- ---- cells
 
--- what a move is off stands as it did
+-- a square that the move neither leaves nor enters keeps its piece
 pub stands : (cells : Cells) (side : Color) (m : Move) (n : ℕ) → IsOff m n → piece_at (cells_after cells side m) n ≡ piece_at cells n
 stands cells side (Board from to promote) n off = get_or-set_other (set cells from None) to n (piece_moved promote (piece_at cells from)) None off.1 ∙ get_or-set_other cells from n None None off.0
 stands cells side (Drop kind to) n off = get_or-set_other cells to n (dropped side kind) None off
@@ -39,7 +39,7 @@ other_place : (side : Color) (kind other : Kind) → place_of side kind ≢ plac
 other_place Black kind other e = let low : kind_number kind < 7 = number_below kind in absurd (omega (arith, low, e))
 other_place White kind other e = let low : kind_number other < 7 = number_below other in absurd (omega (arith, low, e))
 
--- the count of a kind is written
+-- the hands with one count changed
 abbrev put : HandCounts → Color → Kind → (ℕ → ℕ) → HandCounts
 put hands side kind f = set hands (place_of side kind) (f (count_in_hand hands side kind))
 
@@ -50,7 +50,7 @@ put_commute hands side k l f g =
     ∙ set_comm hands (place_of side k) (place_of (opponent_of side) l) (f (count_in_hand hands side k)) (g (count_in_hand hands (opponent_of side) l)) ne
     ∙ ap (λ (n : ℕ). set (put hands (opponent_of side) l g) (place_of side k) (f n)) (sym (get_or-set_other hands (place_of (opponent_of side) l) (place_of side k) (g (count_in_hand hands (opponent_of side) l)) 0 ne))
 
--- what a move writes of a kind, if of any
+-- the hands with the count of a kind changed, if there is a kind
 abbrev change : HandCounts → Color → Option Kind → (ℕ → ℕ) → HandCounts
 change hands side None f = hands
 change hands side (Some kind) f = put hands side kind f
@@ -110,6 +110,6 @@ commute_of cells hands White kind b r h =
     ap (λ (c : Cells). position c (hands_after (hands_after hands cells White (Drop kind b)) (cells_after cells White (Drop kind b)) Black r) White) (cells_commute cells White Black kind b r h)
     ∙ ap (λ (held : HandCounts). position (cells_after (cells_after cells Black r) White (Drop kind b)) held White) (hands_commute hands cells White kind b r h)
 
--- a drop and a reply leave what the reply, after a pass, and then the drop leave, but for who is to move
+-- a drop and then a reply leave the same board and hands as a pass, the reply and then the drop; only the side to move differs
 pub commute : (p : Shogi) (kind : Kind) (b : ℕ) (r : Move) → IsOff r b → after (after p (Drop kind b)) r ≡ passed (after (after_reply p r) (Drop kind b))
 commute p kind b r h = commute_of p.cells p.hands p.side kind b r h

@@ -1,4 +1,4 @@
--- A move that leaves the king of its side attacked does so once a piece is lifted, and another is put off the way.
+-- A move that exposes its own king still does after a piece was lifted, or one was put off the attacker's path.
 use Rattle.std.proofs.Common.{◌≡◌, ◌≢◌, ◌⊎◌, ℕ, ◌<◌, Bool, true, false, Option, None, sym, ap, subst, ◌∙◌, inl, inr, arith, set, length, length-set, get_or-set_same, get_or-set_other}
 use Rattle.std.specs.Prelude.{is_none}
 use Rattle.std.proofs.lemmas.Bool.{and_from, both_ways, cases_eq}
@@ -19,7 +19,7 @@ use Rattle.shogi_replies.proofs.ThreatLaws.{reach_kept}
 use Rattle.analogous_moves.specs.Analogies.{ExposesOwnKing, lifted, moved}
 use Rattle.shogi_replies.proofs.KingGoes.{cleared_none}
 
--- a larger set shuts as well
+-- a larger set may be kept empty instead
 pub exposes_more : (q : Shogi) (kept_empty more from n : ℕ) → ((x : ℕ) → has_bit more x ≡ false → has_bit kept_empty x ≡ false) → ExposesOwnKing q kept_empty from n → ExposesOwnKing q more from n
 exposes_more q kept_empty more from n within s = record {
   foe = s.foe;
@@ -37,7 +37,7 @@ module _ (q : Shogi) (kept_empty a from n : ℕ) (len : length q.cells ≡ 81) (
   there : piece_at (lifted q a).cells from ≡ piece_at q.cells from
   there = get_or-set_other q.cells a from None None (λ same. off_from (sym same))
 
-  -- off the square all is as it was
+  -- other squares keep what stood there
   as_was : (x : ℕ) → x ≢ a → piece_at (moved (lifted q a).cells from n) x ≡ piece_at (moved q.cells from n) x
   as_was x other = elim (cases_eq x n) [
     | inl at ↦ (
@@ -135,7 +135,7 @@ module _ (q : Shogi) (arrived : Option Piece) (kept_empty b from n : ℕ) (promo
     | inr beside ↦ ap is_none (elsewhere x other beside) ∙ e
   ]
 
-  -- the move is not legal then
+  -- the move is still illegal
   pub still_exposes : in_check now q.side ≡ true
   unfolding in_check reaches
   still_exposes =

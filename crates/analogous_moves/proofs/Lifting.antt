@@ -1,4 +1,4 @@
--- A piece that has no part in it may leave a position in which its side gains little and leaves the king a square.
+-- A side without threats has none after a piece that its position does not rely on has left its square.
 use Rattle.std.proofs.Common.{◌≡◌, ◌≢◌, ◌⊎◌, ℕ, ◌+◌, ◌<◌, ◌≤◌, Bool, true, false, List, [], ◌∷◌, Option, Some, None, refl, sym, ap, subst, ◌∙◌, inl, inr, arith, set, length-set, get_or-set_other}
 use Rattle.std.specs.Prelude.{is_none}
 use Rattle.std.specs.List.{list_any}
@@ -35,7 +35,7 @@ use Rattle.analogous_moves.proofs.ExposingLaws.{exposes_lifted}
 use Rattle.analogous_moves.proofs.SpareMoves.{step_same}
 use Rattle.analogous_moves.proofs.Unchecked.{unlined_with_king}
 
--- ---- a slide that a square was in the way of
+-- ---- a slide through an emptied square
 
 no_directions : (role : Role) → is_sliding_role role ≡ false → slides_of role ≡ []
 no_directions Lance e = absurd (cc)
@@ -45,7 +45,7 @@ no_directions Horse e = absurd (cc)
 no_directions Dragon e = absurd (cc)
 no_directions _ e = refl
 
--- the same piece of the other side
+-- the piece in the other side's colour
 abbrev turned : Piece → Piece
 turned piece = record { color = opponent_of piece.color; role = piece.role }
 
@@ -63,7 +63,7 @@ module _ (old new : Cells) (a : ℕ) (opened : (x : ℕ) → is_none (piece_at n
     ]
   ]
 
-  -- what a piece reaches it reached before, or it slides and reached that square
+  -- a piece attacks what it attacked before, unless it is a slider that attacked the emptied square
   pub reach_cut : (piece : Piece) (from to : ℕ) → from < 81 → to < 81 → a < 81 → (is_sliding_role piece.role ≡ false) ⊎ (cell_reaches old (Some piece) from a ≡ false) → cell_reaches new (Some piece) from to ≡ true → cell_reaches old (Some piece) from to ≡ true
   reach_cut piece from to hf ht ha kept_empty e = elim (or_cases (has_step (turned piece) to from) (has_slide new (turned piece) to from) (reach_both_ways new piece from to hf e)) [
     | inl step ↦ turn to (reach_both_ways old (turned piece) to from ht (or_left (has_step (turned piece) to from) (has_slide old (turned piece) to from) step))
@@ -81,7 +81,7 @@ module _ (old new : Cells) (a : ℕ) (opened : (x : ℕ) → is_none (piece_at n
 
 -- ---- a piece is lifted
 
--- with the king lifted, no square but that one is empty that was not
+-- with the king lifted, only the emptied square is newly empty
 pub opened_lifted : (q : Shogi) (king a x : ℕ) → is_none (piece_at (without_king (lifted q a) king) x) ≡ true → (is_none (piece_at (without_king q king) x) ≡ true) ⊎ (x ≡ a)
 opened_lifted q king a x n = elim (cases_eq x king) [
   | inl here ↦ inl (subst (λ (y : ℕ). is_none (piece_at (without_king q king) y) ≡ true) (sym here) (ap is_none (cleared_none q.cells king)))
@@ -91,7 +91,7 @@ opened_lifted q king a x n = elim (cases_eq x king) [
   ]
 ]
 
--- what reaches a square once the piece is lifted reached it before, if it steps or does not reach the piece
+-- an attack with the piece lifted stood before, unless it is by a slider that attacked the piece
 pub reach_lifted : (q : Shogi) (king a : ℕ) (piece : Piece) (from to : ℕ) → from < 81 → to < 81 → a < 81 → (is_sliding_role piece.role ≡ false) ⊎ (cell_reaches (without_king q king) (Some piece) from a ≡ false) → cell_reaches (without_king (lifted q a) king) (Some piece) from to ≡ true → cell_reaches (without_king q king) (Some piece) from to ≡ true
 reach_lifted q king a piece from to hf ht ha cut reached = reach_cut (without_king q king) (without_king (lifted q a) king) a (opened_lifted q king a) piece from to hf ht ha cut reached
 
@@ -115,7 +115,7 @@ module _ (quiet_only : Bool) (q : Shogi) (e : Eval) (gains king squares kept_emp
   leaves : (cell : Option Piece) (n among : ℕ) → ((m : ℕ) → m < 81 → has_bit among m ≡ true → has_bit squares m ≡ true) → LeavesReplySquare quiet_only (without_king q king) cell n among → LeavesReplySquare quiet_only (without_king (lifted q a) king) cell n among
   leaves cell n among within one = (one.0, one.1, one.2, short cell n one.0 (off_open_lines.off_squares one.0 one.1 (within one.0 one.1 one.2)) one.3, one.4)
 
-  -- ---- the king has its squares still
+  -- ---- the king keeps its flight squares
 
   crown_now : is_king (opponent_of q.side) (piece_at (lifted q a).cells king) ≡ true
   crown_now = ap (is_king (opponent_of q.side)) (same king king_off) ∙ no_threats.king_replies.crown
@@ -160,7 +160,7 @@ module _ (quiet_only : Bool) (q : Shogi) (e : Eval) (gains king squares kept_emp
     | inr off ↦ ap is_none (same n off) ∙ was
   ]
 
-  -- the other side is in no check still
+  -- the other side is still not in check
   unchecked_now : in_check (lifted q a).cells (opponent_of q.side) ≡ false
   unchecked_now =
       no_check q.cells (lifted q a).cells (λ x. x ≡ a)
@@ -175,7 +175,7 @@ module _ (quiet_only : Bool) (q : Shogi) (e : Eval) (gains king squares kept_emp
       (λ k l e. ap (λ (cell : Option Piece). cell_reaches q.cells cell a k) gone)
       no_threats.king_replies.unchecked
 
-  -- and has its spare moves
+  -- the other side keeps its spare moves
   spare_now : HasSpareMoves q king → HasSpareMoves (lifted q a) king
   spare_now spares b d =
       let one = spares b d in
@@ -197,7 +197,7 @@ module _ (quiet_only : Bool) (q : Shogi) (e : Eval) (gains king squares kept_emp
         },
       )
 
-  -- ---- what the other pieces do
+  -- ---- moves of the other pieces
 
   piece_no_threat : (from : ℕ) → from < 81 → is_piece_of q.side (piece_at (lifted q a).cells from) ≡ true → PieceGetsNoThreat quiet_only q e gains king squares from a → PieceHasNoThreat quiet_only (lifted q a) e gains king squares kept_empty from
   piece_no_threat from hf own lets n promote h free reached may = goes
@@ -217,7 +217,7 @@ module _ (quiet_only : Bool) (q : Shogi) (e : Eval) (gains king squares kept_emp
       moved_there : (m set : ℕ) → AreOffLines from squares set → LeavesReplySquare quiet_only (without_king q king) (piece_moved promote (piece_at q.cells from)) m set → LeavesReplySquare quiet_only (without_king (lifted q a) king) (piece_moved promote (piece_at (lifted q a).cells from)) m set
       moved_there m set lines one = subst (λ (cell : Option Piece). LeavesReplySquare quiet_only (without_king (lifted q a) king) (piece_moved promote cell) m set) (sym there) (leaves (piece_moved promote (piece_at q.cells from)) m set (λ i hi bit. (lines i hi bit).0) one)
 
-      -- it goes there anew
+      -- the destination is new
       anew : (cell_reaches (without_king q king) (piece_at q.cells from) from n ≡ true → n ≡ a) → IsNoThreatOffLines quiet_only (lifted q a) e gains king squares from n promote
       anew fresh =
           let no_threat = lets.no_threat n promote h free (ap (λ (cell : Option Piece). cell_reaches (without_king (lifted q a) king) cell from n) (sym there) ∙ reached) fresh may_there in
@@ -225,7 +225,7 @@ module _ (quiet_only : Bool) (q : Shogi) (e : Eval) (gains king squares kept_emp
           let few : taken_gain e (piece_at (lifted q a).cells n) + promotion_gain promote (piece_at q.cells from) ≤ gains = no_threat.0 in
           (omega (arith, little, few), (no_threat.1.0, no_threat.1.1, moved_there n no_threat.1.0 no_threat.1.1 no_threat.1.2))
 
-      -- or as before
+      -- the destination was reached before
       as_before : n ≢ a → cell_reaches (without_king q king) (piece_at q.cells from) from n ≡ true → IsNoThreatOffLines quiet_only (lifted q a) e gains king squares from n promote ⊎ ExposesOwnKing (lifted q a) kept_empty from n
       as_before other was = elim (no_threats.pieces from hf mine_there n promote h (ap (is_piece_of q.side) (sym (same n other)) ∙ free) was may_there) [
         | inl no_threat ↦ (
@@ -245,7 +245,7 @@ module _ (quiet_only : Bool) (q : Shogi) (e : Eval) (gains king squares kept_emp
         ]
       ]
 
-  -- so it may leave
+  -- its side has no threat with the piece lifted
   pub lift_no_threats : ((from : ℕ) → from < 81 → is_piece_of q.side (piece_at q.cells from) ≡ true → PieceGetsNoThreat quiet_only q e gains king squares from a) → ((kind : Kind) → 0 < count_in_hand q.hands q.side kind → DropGetsNoThreat quiet_only q king squares kind a) → HasNoThreats quiet_only (lifted q a) e gains king squares kept_empty
   lift_no_threats pieces kinds = record {
     king_replies = record {

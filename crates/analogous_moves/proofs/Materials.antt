@@ -1,4 +1,4 @@
--- A drop that lets a reply be changes the material by what it gains itself.
+-- A drop clear of a reply changes the material by what the drop gains.
 use Rattle.std.proofs.Common.{◌≡◌, ℤ, pos, ◌+◌, ◌-ℤ◌, ◌+ℤ◌, ◌≤ℤ◌, ◌<◌, ℕ, true, false, length, Option, None, Some, refl, ap, ◌∙◌, arith}
 use Rattle.std.proofs.lemmas.Grind.{common_steps}
 use Rattle.std.proofs.lemmas.Int.{ints}
@@ -52,7 +52,7 @@ pub material_after : (p : Shogi) (e : Eval) (m : Move) → IsValid p → IsOnSqu
 material_after p e (Board from to promote) v on l = material_after_board p e from to promote v on.0 on.1 l
 material_after p e (Drop kind to) v on l = material_after_drop p e kind to v on l
 
--- a reply gains the same after a drop on a square that it is off
+-- a reply gains as much after a drop off its squares as after a pass
 gain_kept : (p : Shogi) (e : Eval) (kind : Kind) (b : ℕ) (r : Move) → IsOff r b → gain_of (after p (Drop kind b)) e r ≡ gain_of p e r
 gain_kept p e kind b (Board c d promotes) h =
     ap (λ (cell : Option Piece). pos (taken_gain e cell + promotion_gain promotes (piece_at (cells_after p.cells p.side (Drop kind b)) c))) (stands p.cells p.side (Drop kind b) d (other_way b d h.1))
@@ -63,7 +63,7 @@ gain_passed : (p : Shogi) (e : Eval) (r : Move) → gain_of (passed p) e r ≡ g
 gain_passed p e (Board c d promotes) = refl
 gain_passed p e (Drop kind d) = refl
 
--- the material after a move and a reply that gains the same after it is that after a pass and the reply, and what the move gains
+-- if the reply gains as much as after a pass, the material after move and reply is that after a pass and the reply, plus what the move gains
 pub material_both : (p : Shogi) (e : Eval) (m r : Move) → IsValid p → in_check p.cells p.side ≡ false → IsOnSquares m → IsOnSquares r → gain_of (after p m) e r ≡ gain_of p e r → is_legal p m ≡ true → is_legal (passed p) r ≡ true → is_legal (after p m) r ≡ true
     → material_of (after (after p m) r) e ≡ material_of (after_reply p r) e +ℤ gain_of p e m
 material_both p e m r v unchecked on there same lm lr l =
@@ -77,12 +77,12 @@ material_both p e m r v unchecked on there same lm lr l =
     whole : (mp gm m1 q gr g1 mo q0 g0 : ℤ) → m1 ≡ pos 0 -ℤ (mp +ℤ gm) → q ≡ pos 0 -ℤ (m1 +ℤ g1) → mo ≡ pos 0 -ℤ mp → q0 ≡ pos 0 -ℤ (mo +ℤ g0) → g1 ≡ gr → g0 ≡ gr → q ≡ q0 +ℤ gm
     whole mp gm m1 q gr g1 mo q0 g0 a b c d s t = omega (arith, ints)
 
--- so it is of a drop on a square that the reply is off
+-- this holds for a drop off the squares of the reply
 pub material_moved : (p : Shogi) (e : Eval) (kind : Kind) (b : ℕ) (r : Move) → IsValid p → in_check p.cells p.side ≡ false → b < 81 → IsOnSquares r → IsOff r b → is_legal p (Drop kind b) ≡ true → is_legal (passed p) r ≡ true → is_legal (after p (Drop kind b)) r ≡ true
     → material_of (after (after p (Drop kind b)) r) e ≡ material_of (after_reply p r) e +ℤ gain_of p e (Drop kind b)
 material_moved p e kind b r v unchecked on there apart lm lr l = material_both p e (Drop kind b) r v unchecked on there (gain_kept p e kind b r apart) lm lr l
 
--- which gains nothing
+-- a drop gains nothing
 pub drop_little : (e : Eval) (kind : Kind) → drop_gain e kind ≤ℤ pos 0
 drop_little Plain kind = omega (arith, ints)
 drop_little Exchange kind = omega (arith, ints)

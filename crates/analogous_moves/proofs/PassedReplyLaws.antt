@@ -1,4 +1,4 @@
--- What sets of squares say of the moves of a side.
+-- The sets of squares that the code computes say which moves are threats.
 use Rattle.std.proofs.Common.{◌≡◌, ◌≢◌, ◌⊎◌, ℕ, ◌+◌, ◌-◌, ◌^◌, ◌<◌, ◌≤◌, Bool, true, false, Option, Some, None, refl, sym, ap, subst, ◌∙◌, inl, inr, arith, bit_and, bit_or, set, get_or-set_other}
 use Rattle.std.proofs.lemmas.List.{set_comm}
 use Rattle.std.specs.Prelude.{◌&&◌, ◌||◌, not, ◌==◌, is_none, nat_lt}
@@ -35,15 +35,15 @@ use Rattle.analogous_moves.specs.declared.passed_reply.PassedReply.{PassedReply}
 use Rattle.analogous_moves.specs.PassedReplies.{IsAlike, IsUnthreateningIn, place_in}
 use Rattle.analogous_moves.specs.Analogies.{Allows, AllowsPromotions, AreCapturesAbove, AreOffLines, IsUnthreatening, IsOffOpenLines, ExposesOwnKing, DropsAreNoThreat, DropGetsNoThreat, LeavesReplySquare, PieceHasNoThreat, PieceGetsNoThreat, lifted, without_king}
 
--- a square of a set that shares none with another one
+-- a square of one of two disjoint sets is not in the other
 pub none_in : (a b n : ℕ) → bit_and a b ≡ 0 → has_bit a n ≡ true → has_bit b n ≡ false
 none_in a b n none set = false_from_ne_true (has_bit b n) (λ on. both_ways (has_bit (bit_and a b) n) (ap (λ (m : ℕ). has_bit m n) none ∙ has_bit-none n) (has_bit-and a b n ∙ and_from _ _ set on))
 
--- one of the first set and not of the second
+-- a square of the first set and not of the second
 kept_out : (a b n : ℕ) → b < 2 ^ 81 → n < 81 → has_bit a n ≡ true → has_bit b n ≡ false → has_bit (bit_and a (2 ^ 128 - 1 - b)) n ≡ true
 kept_out a b n fits h on off = has_bit-and a (2 ^ 128 - 1 - b) n ∙ and_from _ _ on (has_bit-not b n (omega (arith, fits)) (omega (arith, h)) ∙ not_from_false _ off)
 
--- ---- what is dear
+-- ---- captures that gain too much
 
 no_piece : (color : Color) (cell : Option Piece) → is_piece_of color cell ≡ false → is_piece_of (opponent_of color) cell ≡ false → cell ≡ None
 no_piece color None mine theirs = refl
@@ -55,7 +55,7 @@ no_piece color (Some piece) mine theirs = absurd (both_ways (is_same_color (oppo
     either White Black e = refl
     either White White e = absurd (cc)
 
--- the pieces are dear whose capture gains more than so much
+-- the enemy pieces sifted by what their capture gains are the captures above the bound
 pub captures_above_sifted : (cells : Cells) (side : Color) (e : Eval) (most foes kept : ℕ) (post : ℕ → Bool → Type 0) → ((n : ℕ) → n < 81 → has_bit foes n ≡ is_piece_of (opponent_of side) (piece_at cells n)) → ((n : ℕ) (passes : Bool) → n < 81 → post n passes → passes ≡ nat_lt most (taken_gain e (piece_at cells n))) → IsSifted post foes kept
     → AreCapturesAbove cells side e most kept
 captures_above_sifted cells side e most foes kept post bits says s n h free out = elim (cases_Bool (has_bit foes n)) [
@@ -66,7 +66,7 @@ captures_above_sifted cells side e most foes kept post bits says s n h free out 
       omega (arith, nothing))
 ]
 
--- what is lifted is not dear
+-- a square that is emptied is no capture above the bound
 pub captures_above_lifted : (cells : Cells) (side : Color) (e : Eval) (most captures a : ℕ) → AreCapturesAbove cells side e most captures → AreCapturesAbove (set cells a None) side e most captures
 captures_above_lifted cells side e most captures a d n h free out = elim (cases_eq n a) [
   | inl at ↦ (
@@ -77,17 +77,17 @@ captures_above_lifted cells side e most captures a d n h free out = elim (cases_
       subst (λ (cell : Option Piece). taken_gain e cell ≤ most) (sym same) (d n h (ap (is_piece_of side) (sym same) ∙ free) out))
 ]
 
--- the king stands off a square that is cleared
+-- the enemy king does not stand on the emptied square
 pub king_off : (cells : Cells) (color : Color) (king a : ℕ) → is_king color (piece_at (set cells a None) king) ≡ true → king ≢ a
 king_off cells color king a crown at = both_ways (is_king color None) refl (ap (is_king color) (sym (ap (piece_at (set cells a None)) at ∙ cleared_none cells a)) ∙ crown)
 
--- the king and another piece are lifted in either order
+-- the king and another piece may be lifted in either order
 pub both_lifted : (kingless board : Cells) (king a : ℕ) → kingless ≡ set board king None → king ≢ a → set kingless a None ≡ set (set board a None) king None
 both_lifted kingless board king a lifted off = ap (λ (cells : Cells). set cells a None) lifted ∙ set_comm board king a None None off
 
--- ---- what is forbidden
+-- ---- forbidden destinations
 
--- those of the targets that are, with promotion and without
+-- the forbidden targets, with and without promotion
 pub targets_within : (targets forbidden n : ℕ) → has_bit (bit_and targets forbidden) n ≡ true → has_bit targets n ≡ true
 targets_within targets forbidden n e = (and_parts _ _ (sym (has_bit-and targets forbidden n) ∙ e)).0
 
@@ -103,7 +103,7 @@ off_promoting targets non forbidden may both n is on out set = false_from_ne_tru
 off_two : (a b n : ℕ) → has_bit (bit_or a b) n ≡ false → (has_bit a n ≡ false) × (has_bit b n ≡ false)
 off_two a b n out = or_parts (has_bit a n) (has_bit b n) (sym (has_bit-or a b n) ∙ out)
 
--- what holds off a set holds off a greater one
+-- what holds off a set holds off a larger one
 pub off_left : (a b n : ℕ) → has_bit (bit_or a b) n ≡ false → has_bit a n ≡ false
 off_left a b n out = (off_two a b n out).0
 
@@ -135,7 +135,7 @@ allows_off quiet_only q e gains king kingless piece squares captures covered pro
 
 -- ---- the moves of a piece
 
--- the position in which a piece is lifted
+-- the position with a square emptied
 abbrev lifted_from : Shogi → ℕ → Shogi
 lifted_from q a = lifted q a
 
@@ -143,7 +143,7 @@ no_promotion : (cell : Option Piece) → promotion_gain false cell ≡ 0
 no_promotion None = refl
 no_promotion (Some piece) = refl
 
--- a move is calm to a square that is not forbidden
+-- a move to a square that is not forbidden is no threat
 no_threat_there : (quiet_only : Bool) (q : Shogi) (e : Eval) (gains king : ℕ) (piece : Piece) (squares n : ℕ) (promote : Bool) (forbidden : ForbiddenSquares) → Allows quiet_only q e gains king piece squares forbidden → n < 81 → has_bit forbidden.non_promoting.bits n ≡ false → (promote ≡ true → has_bit forbidden.promoting.bits n ≡ false)
     → (promotion_gain promote (Some piece) ≤ gains) × LeavesReplySquare quiet_only (without_king q king) (piece_moved promote (Some piece)) n squares
 no_threat_there quiet_only q e gains king piece squares n true forbidden allows h out off = (allows.promotions.gain n h (off refl), allows.promotions.leaves n h (off refl))
@@ -157,12 +157,12 @@ gain_there quiet_only q e gains king piece squares n false forbidden allows h fr
     let few : taken_gain e (piece_at q.cells n) ≤ gains = allows.takes n h free out in
     omega (arith, nothing, few)
 
--- those of the targets that are forbidden are these
+-- `found` has the targets that are forbidden
 pub record AreForbidden (piece : Piece) (from targets : ℕ) (forbidden : ForbiddenSquares) (found : ℕ) : Type 0 where
   pub non_promoting : (n : ℕ) → has_bit targets n ≡ true → has_bit found n ≡ false → has_bit forbidden.non_promoting.bits n ≡ false
   pub promoting : (n : ℕ) → n < 81 → has_bit targets n ≡ true → has_bit found n ≡ false → may_promote (Some piece) from n ≡ true → has_bit forbidden.promoting.bits n ≡ false
 
--- a piece whose moves to forbidden targets are shut, but to squares of its own side
+-- a piece all of whose moves to forbidden targets expose its own king has no threat
 module _ (quiet_only : Bool) (q : Shogi) (e : Eval) (gains king : ℕ) (kingless : Cells) (piece : Piece) (from targets own lines clear squares found : ℕ) (forbidden : ForbiddenSquares) (lifted : kingless ≡ without_king q king) (is : piece_at q.cells from ≡ Some piece) (reach : (n : ℕ) → n < 81 → has_bit targets n ≡ cell_reaches kingless (Some piece) from n)
     (lined : (n : ℕ) → n < 81 → has_bit lines n ≡ are_aligned from n) (lines_fit : lines < 2 ^ 81) (opens : clear ≡ bit_and squares (2 ^ 128 - 1 - lines)) (allows : Allows quiet_only q e gains king piece clear forbidden) (these : AreForbidden piece from targets forbidden found) where
   led : (n : ℕ) → n < 81 → cell_reaches (without_king q king) (piece_at q.cells from) from n ≡ true → has_bit targets n ≡ true
@@ -189,7 +189,7 @@ module _ (quiet_only : Bool) (q : Shogi) (e : Eval) (gains king : ℕ) (kingless
   same_piece : (other : Piece) → piece_at q.cells from ≡ Some other → Some other ≡ Some piece
   same_piece other at = sym at ∙ is
 
-  -- what it reaches anew, if it steps or does not reach the piece that leaves, is only where that stood
+  -- if the piece steps, or does not attack the one that leaves, its only new target is the square that was left
   led_anew : (a n : ℕ) → from < 81 → a < 81 → n < 81 → (is_sliding_role piece.role ≡ false) ⊎ (has_bit targets a ≡ false) → cell_reaches (without_king (lifted_from q a) king) (piece_at q.cells from) from n ≡ true → (cell_reaches (without_king q king) (piece_at q.cells from) from n ≡ true → n ≡ a) → (n ≡ a) × (has_bit targets a ≡ true)
   led_anew a n hf ha h cut reached fresh =
       let was : cell_reaches (without_king q king) (piece_at q.cells from) from n ≡ true = ap (λ (x : Option Piece). cell_reaches (without_king q king) x from n) is
@@ -197,11 +197,11 @@ module _ (quiet_only : Bool) (q : Shogi) (e : Eval) (gains king : ℕ) (kingless
       (ap (λ (x : Option Piece). cell_reaches (without_king (lifted_from q a) king) x from n) (sym is) ∙ reached) in
       (fresh was, subst (λ (x : ℕ). has_bit targets x ≡ true) (fresh was) (led n h was))
 
-  -- one that slides lets leave what it does not reach
+  -- a slider has no new threat if a piece leaves that it does not attack
   pub slider_lets : from < 81 → (a : ℕ) → a < 81 → has_bit targets a ≡ false → PieceGetsNoThreat quiet_only q e gains king squares from a
   slider_lets hf a ha out = record { no_threat = λ n promote h free reached fresh lets. absurd (both_ways (has_bit targets a) out (led_anew a n hf ha h (inr out) reached fresh).1) }
 
-  -- and another one what it may move to
+  -- a stepping piece has no new threat if the square that is left is not forbidden
   pub stepper_lets : from < 81 → is_sliding_role piece.role ≡ false → (a : ℕ) → a < 81 → has_bit found a ≡ false → PieceGetsNoThreat quiet_only q e gains king squares from a
   stepper_lets hf still a ha out = record {
     no_threat = λ n promote h free reached fresh lets. (
@@ -212,7 +212,7 @@ module _ (quiet_only : Bool) (q : Shogi) (e : Eval) (gains king : ℕ) (kingless
         (omega (arith, none, few), no_threat.1));
   }
 
--- one that slides lets leave what is in its way, if nothing is forbidden of what it reaches then
+-- a slider has no new threat if a blocker leaves and none of its new targets is forbidden
 module _ (quiet_only : Bool) (q : Shogi) (e : Eval) (gains king : ℕ) (kingless : Cells) (piece : Piece) (from a targets opened own both others ends clear squares found : ℕ) (forbidden : ForbiddenSquares) (lifted : kingless ≡ without_king q king) (is : piece_at q.cells from ≡ Some piece) (reach : (n : ℕ) → n < 81 → has_bit targets n ≡ cell_reaches kingless (Some piece) from n)
     (wide : (n : ℕ) → n < 81 → has_bit opened n ≡ cell_reaches (set kingless a None) (Some piece) from n) (owned : (n : ℕ) → n < 81 → has_bit own n ≡ is_piece_of q.side (piece_at q.cells n)) (joins : both ≡ bit_or own targets) (spares : (i : ℕ) → has_bit others i ≡ (has_bit both i && not (i == a))) (others_fit : others < 2 ^ 81) (rest : ends ≡ bit_and opened (2 ^ 128 - 1 - others))
     (off_lines : AreOffLines from squares clear) (allows : Allows quiet_only q e gains king piece clear forbidden) (these : AreForbidden piece from ends forbidden found) (nothing : found ≡ 0) (off : king ≢ a) where
@@ -248,7 +248,7 @@ module _ (quiet_only : Bool) (q : Shogi) (e : Eval) (gains king : ℕ) (kingless
         (subst (λ (x : Option Piece). taken_gain e (piece_at (lifted_from q a).cells n) + promotion_gain promote x ≤ gains) (sym is) few, (clear, off_lines, subst (λ (x : Option Piece). LeavesReplySquare quiet_only (without_king q king) (piece_moved promote x) n clear) (sym is) one.1)));
   }
 
--- the king of the other side stands off a piece
+-- the enemy king does not stand on a square of ours
 pub king_apart : (q : Shogi) (king a : ℕ) → is_king (opponent_of q.side) (piece_at q.cells king) ≡ true → is_piece_of q.side (piece_at q.cells a) ≡ true → king ≢ a
 king_apart q king a crown mine at = both_ways (is_piece_of (opponent_of q.side) (piece_at q.cells a)) (other_side q.side (piece_at q.cells a) mine) (subst (λ (x : ℕ). is_piece_of (opponent_of q.side) (piece_at q.cells x) ≡ true) at (king_own (opponent_of q.side) (piece_at q.cells king) crown))
 
@@ -275,7 +275,7 @@ each_kind fact pawn lance knight silver gold bishop rook kinds.Gold = gold
 each_kind fact pawn lance knight silver gold bishop rook kinds.Bishop = bishop
 each_kind fact pawn lance knight silver gold bishop rook kinds.Rook = rook
 
--- what is put on the square is idle
+-- a piece that attacks no reply square and has no forbidden target makes no threat
 pub unthreatening_there : (quiet_only : Bool) (q : Shogi) (e : Eval) (gains king : ℕ) (kingless : Cells) (piece : Piece) (to reach squares closed own rest found : ℕ) (forbidden : ForbiddenSquares) → kingless ≡ without_king q king → king < 81 → ((n : ℕ) → n < 81 → has_bit reach n ≡ cell_reaches kingless (Some piece) to n)
     → has_bit squares to ≡ false → ((i : ℕ) → has_bit closed i ≡ (has_bit squares i || i == king)) → bit_and reach closed ≡ 0 → ((n : ℕ) → n < 81 → has_bit own n ≡ is_piece_of q.side (piece_at q.cells n)) → own < 2 ^ 81 → rest ≡ bit_and reach (2 ^ 128 - 1 - own)
     → Allows quiet_only q e gains king piece squares forbidden → AreForbidden piece to rest forbidden found → found ≡ 0 → IsUnthreatening quiet_only q e gains king squares (Some piece) to
@@ -302,9 +302,9 @@ unthreatening_there quiet_only q e gains king kingless piece to reach squares cl
     far : (n : ℕ) → n < 81 → has_bit closed n ≡ true → cell_reaches (without_king q king) (Some piece) to n ≡ false
     far n h set = false_from_ne_true _ (λ r. both_ways (has_bit reach n) (false_from_ne_true (has_bit reach n) (λ on. both_ways (has_bit closed n) (none_in reach closed n none on) set)) (led n h ∙ back n r))
 
--- ---- what is calm or shut where more is shut
+-- ---- more squares are kept empty
 
--- what is calm is so where more is shut
+-- a piece without threats has none if more squares are kept empty
 no_threat_more : (quiet_only : Bool) (q : Shogi) (e : Eval) (gains king squares kept_empty more from : ℕ) → ((x : ℕ) → has_bit more x ≡ false → has_bit kept_empty x ≡ false) → PieceHasNoThreat quiet_only q e gains king squares kept_empty from → PieceHasNoThreat quiet_only q e gains king squares more from
 no_threat_more quiet_only q e gains king squares kept_empty more from within no_threat n promote h free reached lets = elim (no_threat n promote h free reached lets) [ inl little ↦ inl little | inr stopped ↦ inr (exposes_more q kept_empty more from n within stopped) ]
 
@@ -314,12 +314,12 @@ exposes_next q from kept_empty more = (λ n. exposes_more q kept_empty (bit_or k
 pub no_threat_next : (quiet_only : Bool) (q : Shogi) (e : Eval) (gains king squares kept_empty more : ℕ) → ((n : ℕ) → PieceHasNoThreat quiet_only q e gains king squares kept_empty n → PieceHasNoThreat quiet_only q e gains king squares (bit_or kept_empty more) n) × ((n : ℕ) → PieceHasNoThreat quiet_only q e gains king squares more n → PieceHasNoThreat quiet_only q e gains king squares (bit_or kept_empty more) n)
 no_threat_next quiet_only q e gains king squares kept_empty more = (λ n. no_threat_more quiet_only q e gains king squares kept_empty (bit_or kept_empty more) n (off_left kept_empty more), λ n. no_threat_more quiet_only q e gains king squares more (bit_or kept_empty more) n (off_right kept_empty more))
 
--- ---- what is seen
+-- ---- open lines
 
 unlined : (cells : Cells) (lines n a : ℕ) → ((m : ℕ) → m < 81 → has_bit lines m ≡ are_lined cells n m) → a < 81 → has_bit lines a ≡ false → are_lined cells a n ≡ false
 unlined cells lines n a bits ha out = false_from_ne_true _ (λ seen. both_ways (has_bit lines a) out (bits a ha ∙ lined_back cells a n ha seen))
 
--- what is off all lines from the king and its squares is seen by none of them
+-- a square outside the open lines of the king and of the reply squares is on none of them
 pub all_seen : (q : Shogi) (kingless : Cells) (king squares found lines : ℕ) (post : ℕ → Squares → Type 0) → kingless ≡ without_king q king → ((k : ℕ) (led : Squares) → k < 81 → post k led → (m : ℕ) → m < 81 → has_bit led.bits m ≡ are_lined kingless k m) → IsUnion post squares found → ((m : ℕ) → m < 81 → has_bit lines m ≡ are_lined kingless king m)
     → (a : ℕ) → a < 81 → has_bit (bit_or found lines) a ≡ false → IsOffOpenLines q king squares a
 all_seen q kingless king squares found lines post lifted says union lined a ha out = record {
@@ -329,14 +329,14 @@ all_seen q kingless king squares found lines post lifted says union lined a ha o
       ap (λ (cells : Cells). are_lined cells a n) (sym lifted) ∙ unlined kingless led.0.bits n a (says n led.0 h led.1) ha (false_from_ne_true _ (λ on. both_ways (has_bit found a) (off_left found lines a out) (led.2 a on))));
 }
 
--- ---- where pieces may go
+-- ---- destinations of several pieces
 
--- what stands on the square is idle on those of the ends that it reaches on another board
+-- the piece on `from`, once lifted, makes no threat on the ends that it reaches on the board before
 abbrev pub AreUnthreateningEndsFrom : PassedReply → Cells → ℕ → ℕ → Type 0
 AreUnthreateningEndsFrom s before set from = (to : ℕ) → to < 81 → has_bit set to ≡ true → reaches before from to ≡ true
     → IsUnthreatening s.quiet_only (lifted (place_in s) from) s.node.eval s.gains s.king s.squares.bits (piece_at s.board from) to
 
--- ends without those of the targets that are not idle
+-- the ends without the targets on which the piece makes a threat
 pub merged_among : (ends targets unthreatening n : ℕ) → ((m : ℕ) → has_bit unthreatening m ≡ true → has_bit (bit_and targets ends) m ≡ true) → has_bit (bit_or (bit_and ends (2 ^ 128 - 1 - targets)) unthreatening) n ≡ true → has_bit ends n ≡ true
 merged_among ends targets unthreatening n within set = elim (or_cases _ _ (sym (has_bit-or (bit_and ends (2 ^ 128 - 1 - targets)) unthreatening n) ∙ set)) [
   | inl kept ↦ targets_within ends (2 ^ 128 - 1 - targets) n kept
@@ -349,7 +349,7 @@ merged_unthreatening ends targets unthreatening n fits h set on = elim (or_cases
   | inr new ↦ new
 ]
 
--- what is idle in a scene that is alike but for a piece that is lifted
+-- a piece that makes no threat in a passed reply makes none in one that differs only by the lifted piece
 pub unthreatening_alike : (s t : PassedReply) (a : ℕ) (cell : Option Piece) (to : ℕ) → place_in t ≡ lifted (place_in s) a → IsAlike s t → IsUnthreateningIn t cell to → IsUnthreatening s.quiet_only (lifted (place_in s) a) s.node.eval s.gains s.king s.squares.bits cell to
 unthreatening_alike s t a cell to place alike unthreatening =
     subst (λ (q : Shogi). IsUnthreatening s.quiet_only q s.node.eval s.gains s.king s.squares.bits cell to) place

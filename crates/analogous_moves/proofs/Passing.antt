@@ -1,4 +1,4 @@
--- What a pass leaves.
+-- The position after a pass.
 use Rattle.std.proofs.Common.{◌≡◌, pos, ◌-ℤ◌, false, refl, ap, ◌∙◌, arith}
 use Rattle.std.proofs.lemmas.Int.{ints}
 use Rattle.shogi_core.specs.declared.piece.Color.{Color}
@@ -12,7 +12,7 @@ use Rattle.shogi_eval.specs.declared.eval.Eval.{Eval}
 use Rattle.shogi_eval.specs.Material.{points_of, material_of}
 use Rattle.analogous_moves.specs.Analogies.{passed}
 
--- a side that is in no check may pass
+-- a side that is not in check may pass: the position stays valid
 pub passed_valid : (p : Shogi) → IsValid p → in_check p.cells p.side ≡ false → IsValid (passed p)
 passed_valid p v unchecked =
     let fine = faultless_from p v.no_fault in
@@ -32,7 +32,7 @@ points_passed : (p : Shogi) (e : Eval) (color : Color) → points_of (passed p) 
 unfolding points_of
 points_passed p e color = refl
 
--- and the material is that of the other side
+-- after a pass, the material is the negated one
 pub material_passed : (p : Shogi) (e : Eval) → material_of (passed p) e ≡ pos 0 -ℤ material_of p e
 unfolding material_of
 material_passed p e =

@@ -1,4 +1,4 @@
--- A side that is in no check and has spare moves has a legal one.
+-- A side that is not in check and has spare moves has a legal move.
 use Rattle.std.proofs.Common.{◌≡◌, ◌≢◌, ℕ, ◌<◌, true, false, not, Option, Some, None, sym, ap, subst, ◌∙◌, inl, inr, ◌-◌, ◌^◌, bit_and}
 use Rattle.std.specs.Prelude.{Bool, ◌&&◌, ◌||◌, ◌==◌, IfSome, is_none, is_some}
 use Rattle.std.proofs.lemmas.Bool.{and_from, and_parts, both_ways, cases_eq, eq-eqb, false_from_ne_true, not-true, or_parts}
@@ -21,7 +21,7 @@ use Rattle.analogous_moves.specs.declared.spare_moves.FreeStep.{FreeStep}
 use Rattle.analogous_moves.proofs.Sets.{out_parts}
 use Rattle.analogous_moves.proofs.Worth.{HasBoardMove}
 
--- it is one where both squares are as before
+-- the step is still one if its two squares are unchanged
 pub step_same : (old new : Cells) (a t : ℕ) → piece_at new a ≡ piece_at old a → piece_at new t ≡ piece_at old t → is_quiet_step old a t ≡ true → is_quiet_step new a t ≡ true
 step_same old new a t one two e =
     ap (λ (cell : Option Piece). cell_steps cell a t && is_none (piece_at new t) && not (is_immobile t cell)) one
@@ -36,7 +36,7 @@ unaligned cells color king a only_king off = some_below_no 81 (is_line_of_king c
       | inr other ↦ both_ways (is_king color (piece_at cells k)) (only_king k hk other) parts.0
     ])))
 
--- a move of the other side leaves such a step, if it ends on neither of its squares
+-- a step stays legal after a move of the other side that ends on neither of its squares
 pub replies_by_step : (quiet_only : Bool) (old new : Cells) (hands : HandCounts) (color : Color) (king d a t : ℕ) → HasNoOtherKing old color king → LeavesStanding old new color d → in_check new color ≡ false → a < 81 → t < 81 → a ≢ d → t ≢ d → is_piece_of color (piece_at old a) ≡ true → a ≢ king → are_aligned king a ≡ false → is_quiet_step old a t ≡ true
     → HasBoardMove quiet_only (record { cells = new; hands = hands; side = color })
 replies_by_step quiet_only old new hands color king d a t only_king k unchecked ha ht stays beside own other off step =
@@ -44,11 +44,11 @@ replies_by_step quiet_only old new hands color king d a t only_king k unchecked 
 
 -- ---- one of three is left
 
--- such steps are apart from another one
+-- the two squares of a step differ
 apart : (cells : Cells) (color : Color) (a t : ℕ) → is_piece_of color (piece_at cells a) ≡ true → is_none (piece_at cells t) ≡ true → a ≢ t
 apart cells color a t own bare at = both_ways (is_none (piece_at cells a)) (own_some color (piece_at cells a) own) (subst (λ (x : ℕ). is_none (piece_at cells x) ≡ true) (sym at) bare)
 
--- where a move ends it meets one of two such steps at most
+-- a spare move between squares of the board
 pub record IsStepAt (q : Shogi) (king a t : ℕ) : Type 0 where
   pub on_board : (a < 81) × (t < 81)
   pub spare : IsSpareMove q king a t
@@ -59,7 +59,7 @@ Left q king b d = (a : ℕ) × (t : ℕ) × (a < 81) × (t < 81) × (a ≢ d) ×
 own_of : (q : Shogi) (king a t : ℕ) → IsStepAt q king a t → is_none (piece_at q.cells t) ≡ true
 own_of q king a t s = (step_parts q.cells a t s.spare.step).1
 
--- of two steps one is left where a move ends, if neither square is filled
+-- of two steps, one is left wherever a move ends, if neither target is filled
 one_of_two : (q : Shogi) (king b d a t c u : ℕ) → IsStepAt q king a t → IsStepAt q king c u → a ≢ c → t ≢ u → t ≢ b → u ≢ b → Left q king b d
 one_of_two q king b d a t c u s r ne nu tb ub = elim (cases_eq a d) [
   | inl at ↦ (c, u, r.on_board.0, r.on_board.1, (λ same. ne (at ∙ sym same)), (λ same. apart q.cells (opponent_of q.side) a u s.spare.own (own_of q king c u r) (at ∙ sym same)), ub, r.spare)
@@ -78,9 +78,9 @@ three_steps q king a t c u e v one two three ac ae ce tu tv uv b d = elim (cases
   ]
 ]
 
--- ---- three that are found
+-- ---- three steps that the code finds
 
--- pieces of the side that is not to move, on no line with its king
+-- the pieces of the opponent, on no line with its king
 pub record AreUnbound (q : Shogi) (king pieces : ℕ) : Type 0 where
   pub each : (n : ℕ) → n < 81 → has_bit pieces n ≡ true → (is_piece_of (opponent_of q.side) (piece_at q.cells n) ≡ true) × (n ≢ king) × (are_aligned king n ≡ false)
 

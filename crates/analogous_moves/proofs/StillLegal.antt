@@ -1,4 +1,4 @@
--- A reply that is legal after a pass is legal after a drop that lets it be.
+-- A reply that is legal after a pass is legal after a drop that is clear of it and gives no check.
 use Rattle.std.proofs.Common.{◌≡◌, ◌≢◌, ℕ, ◌/◌, ◌<◌, ◌≤◌, Bool, true, false, not, Option, Some, None, refl, sym, ap, subst, ◌∙◌, arith, inl, inr, set, length, length-set, get_or-set_same}
 use Rattle.std.specs.Prelude.{◌&&◌, ◌||◌, nat_lt, is_none}
 use Rattle.std.proofs.lemmas.Bool.{and_cases, and_from, and_left, and_parts, and_right, both_ways, false_from_ne_true, le-ltb, ltb-false, not-true, not_from_false}
@@ -40,7 +40,7 @@ pub legal_from : (p : Shogi) (m : Move) → is_pseudo_legal p m ≡ true → in_
 unfolding is_legal is_safe
 legal_from p m may unchecked none = and_from _ _ (and_from _ _ may (not_from_false _ unchecked)) (not_from_false _ none)
 
--- ---- what a drop leaves to the other side
+-- ---- what a drop leaves of the other side's pieces
 
 abbrev pub StandsStill : Cells → Cells → Color → Type 0
 StandsStill old new color = (x : ℕ) → is_piece_of color (piece_at new x) ≡ true → piece_at old x ≡ piece_at new x
@@ -79,7 +79,7 @@ pub length-after : (cells : Cells) (side : Color) (m : Move) → length (cells_a
 length-after cells side (Board from to promote) = length-set (set cells from None) to (piece_moved promote (piece_at cells from)) ∙ length-set cells from None
 length-after cells side (Drop kind to) = length-set cells to (dropped side kind)
 
--- ---- the reply may be made, apart from checks
+-- ---- the reply stays pseudo-legal
 
 all_five : (cells : Cells) (color : Color) (c d : ℕ) (promote : Bool) → is_piece_of color (piece_at cells c) ≡ true → is_piece_of color (piece_at cells d) ≡ false → reaches cells c d ≡ true → (not promote || may_promote (piece_at cells c) c d) ≡ true → is_immobile d (piece_moved promote (piece_at cells c)) ≡ false
     → is_pseudo_legal_board_move cells color c d promote ≡ true
@@ -130,7 +130,7 @@ pseudo_kept p kind b (Board c d promotes) len on there spared e =
 pseudo_kept p kind b (Drop held d) len on there spared e =
     pseudo_drop p.cells (cells_after p.cells p.side (Drop kind b)) p.hands (after p (Drop kind b)).hands (opponent_of p.side) held b d (standing_drop p.cells p.side kind b len on) len there (λ same. spared.0 (sym same)) (foes_drop p.cells p.side kind b len on) (other_counts p (Drop kind b) held) e
 
--- ---- so the reply is legal
+-- ---- the reply stays legal
 
 pub still_legal : (p : Shogi) (kind : Kind) (b : ℕ) (r : Move) → length p.cells ≡ 81 → b < 81 → IsOnSquares r → is_legal (passed p) r ≡ true → LeavesReplyLegal p kind b r → is_legal (after p (Drop kind b)) r ≡ true
 still_legal p kind b r len on there lr be =

@@ -1,4 +1,4 @@
--- What changes nothing where it is put leaves its side no more gain, and the other side's king the squares that it had.
+-- An unthreatening piece that is put on the board gives its side no threat and leaves the enemy king its reply squares.
 use Rattle.std.proofs.Common.{◌≡◌, ◌≢◌, ◌⊎◌, ℕ, ℤ, pos, ◌+◌, ◌<◌, ◌≤◌, ◌+ℤ◌, ◌≤ℤ◌, Bool, true, false, not, Option, Some, None, refl, sym, ap, subst, ◌∙◌, inl, inr, arith, set, length, length-set, get_or-set_same, get_or-set_other}
 use Rattle.std.specs.Prelude.{◌&&◌, ◌||◌, is_none, nat_lt}
 use Rattle.std.proofs.lemmas.Bool.{and_from, and_parts, both_ways, cases_eq, false_from_ne_true, ltb-true, not-true}
@@ -43,11 +43,11 @@ use Rattle.analogous_moves.proofs.StillLegal.{legal_parts, length-after}
 use Rattle.analogous_moves.proofs.Unchecked.{harmless_there, unchecked_by, unlined_with}
 use Rattle.analogous_moves.proofs.Worth.{HasBoardMove, IsBoundedAndAnswered}
 
--- the position with a piece put on a square, and these hands
+-- the position with a piece put on a square, and with these hands
 abbrev pub put_on : Shogi → Option Piece → HandCounts → ℕ → Shogi
 put_on q arrived hands b = record { cells = set q.cells b arrived; hands = hands; side = q.side }
 
--- what a pseudo-legal move on the board is
+-- the parts of a pseudo-legal board move
 pub board_parts : (q : Shogi) (c d : ℕ) (promote : Bool) → is_legal q (Board c d promote) ≡ true → (is_piece_of q.side (piece_at q.cells c) ≡ true) × (is_piece_of q.side (piece_at q.cells d) ≡ false) × (reaches q.cells c d ≡ true) × ((not promote || may_promote (piece_at q.cells c) c d) ≡ true)
 board_parts q c d promote l =
     let parts = legal_parts q (Board c d promote) l in
@@ -57,7 +57,7 @@ board_parts q c d promote l =
     let one = and_parts (is_piece_of q.side (piece_at q.cells c)) (not (is_piece_of q.side (piece_at q.cells d))) two.0 in
     (one.0, not-true _ one.1, two.1, three.1)
 
--- and a drop
+-- the parts of a pseudo-legal drop
 pub drop_parts : (q : Shogi) (kind : Kind) (d : ℕ) → is_legal q (Drop kind d) ≡ true → (nat_lt 0 (count_in_hand q.hands q.side kind) ≡ true) × (is_none (piece_at q.cells d) ≡ true) × (is_immobile d (dropped q.side kind) ≡ false)
 drop_parts q kind d l =
     let parts = legal_parts q (Drop kind d) l in
@@ -74,7 +74,7 @@ pub none_is : (cell : Option Piece) → is_none cell ≡ true → cell ≡ None
 none_is None e = refl
 none_is (Some piece) e = absurd (cc)
 
--- a move takes no king
+-- a legal position lets no move capture a king
 takes_no_king : (q : Shogi) (c k : ℕ) → IsValid q → c < 81 → k < 81 → is_king (opponent_of q.side) (piece_at q.cells k) ≡ true → is_piece_of q.side (piece_at q.cells c) ≡ true → reaches q.cells c k ≡ false
 unfolding in_check
 takes_no_king q c k v hc hk crown own =
@@ -107,7 +107,7 @@ module _ (quiet_only : Bool) (q : Shogi) (e : Eval) (gains king squares kept_emp
     | inr off ↦ inr (inr (same x off))
   ]
 
-  -- the king lifted, nothing is empty that was not
+  -- with the king lifted, no further square is empty
   opened_lifted : (x : ℕ) → is_none (piece_at (set (put_on q arrived hands b).cells king None) x) ≡ true → (is_none (piece_at (without_king q king) x) ≡ true) ⊎ ⊥
   opened_lifted x n = elim (cases_eq x king) [
     | inl here ↦ inl (ap (λ (y : ℕ). is_none (piece_at (set q.cells king None) y)) here ∙ ap is_none (get_or-set_same q.cells king None None (omega (arith, len, no_threats.king_replies.king_fits))))
@@ -135,7 +135,7 @@ module _ (quiet_only : Bool) (q : Shogi) (e : Eval) (gains king squares kept_emp
   short_lifted : (cell : Option Piece) (c d : ℕ) → cell_reaches (without_king q king) cell c d ≡ false → cell_reaches (set (put_on q arrived hands b).cells king None) cell c d ≡ false
   short_lifted cell c d out = false_from_ne_true _ (λ r. both_ways (cell_reaches (without_king q king) cell c d) out (reached_lifted cell c d r))
 
-  -- ---- the king has its squares still
+  -- ---- the king keeps its flight squares
 
   square_off : (n : ℕ) → has_bit squares n ≡ true → n ≢ b
   square_off n bit at = both_ways (has_bit squares b) unthreatening.off (subst (λ (x : ℕ). has_bit squares x ≡ true) at bit)
@@ -162,7 +162,7 @@ module _ (quiet_only : Bool) (q : Shogi) (e : Eval) (gains king squares kept_emp
             (λ x left. absurd left) was.safe;
       }
 
-  -- ---- or its side has spare moves
+  -- ---- the other side keeps its spare moves
 
   only_king_now : HasNoOtherKing (put_on q arrived hands b).cells (opponent_of q.side) king
   only_king_now x hx other = elim (see x) [
@@ -181,7 +181,7 @@ module _ (quiet_only : Bool) (q : Shogi) (e : Eval) (gains king squares kept_emp
       (ap (is_piece_of (opponent_of q.side)) (same one.0 from_off) ∙ one.7.own) one.7.off_king one.7.off_lines
       (step_same q.cells (put_on q arrived hands b).cells one.0 one.1 (same one.0 from_off) (same one.1 one.6) one.7.step)
 
-  -- what stands in the new position stood where the king is lifted
+  -- a square that is empty in the new position was empty before
   emptied : (x : ℕ) → is_none (piece_at (put_on q arrived hands b).cells x) ≡ true → is_none (piece_at q.cells x) ≡ true
   emptied x n = elim (see x) [
     | inl at ↦ absurd (both_ways (is_none arrived) (own_some q.side arrived owned) (ap is_none (sym at.1) ∙ n))
@@ -191,7 +191,7 @@ module _ (quiet_only : Bool) (q : Shogi) (e : Eval) (gains king squares kept_emp
   harmless_now : (cell : Option Piece) (d e : ℕ) → e ≡ king → cell_reaches (without_king q king) cell d e ≡ false → IsHarmless (put_on q arrived hands b).cells (opponent_of q.side) cell d
   harmless_now cell d e at far = harmless_there (put_on q arrived hands b).cells (opponent_of q.side) king q.cells cell d len no_threats.king_replies.king_fits only_king_now emptied (subst (λ (x : ℕ). cell_reaches (without_king q king) cell d x ≡ false) at far)
 
-  -- ---- a move of another piece
+  -- ---- a board move
 
   module _ (c d : ℕ) (promote : Bool) (hc : c < 81) (hd : d < 81) (l : is_legal (put_on q arrived hands b) (Board c d promote) ≡ true) where
     own : is_piece_of q.side (piece_at (put_on q arrived hands b).cells c) ≡ true
@@ -227,7 +227,7 @@ module _ (quiet_only : Bool) (q : Shogi) (e : Eval) (gains king squares kept_emp
     end_there : piece_at (cells_after (put_on q arrived hands b).cells q.side (Board c d promote)) d ≡ piece_moved promote (piece_at (put_on q arrived hands b).cells c)
     end_there = get_or-set_same (set (put_on q arrived hands b).cells c None) d (piece_moved promote (piece_at (put_on q arrived hands b).cells c)) None (omega (arith, length-set (put_on q arrived hands b).cells c None, fits, hd))
 
-    -- of what was dropped
+    -- the piece that arrived moves
     dropped_moves : c ≡ b → (taken_gain e (piece_at (put_on q arrived hands b).cells d) + promotion_gain promote (piece_at (put_on q arrived hands b).cells c) ≤ gains) × (HasBoardMove quiet_only (after (put_on q arrived hands b) (Board c d promote)))
     unfolding reaches
     dropped_moves at =
@@ -275,7 +275,7 @@ module _ (quiet_only : Bool) (q : Shogi) (e : Eval) (gains king squares kept_emp
           ]
         ]
 
-    -- of one that stood there
+    -- a piece that stood there moves
     other_moves : c ≢ b → (taken_gain e (piece_at (put_on q arrived hands b).cells d) + promotion_gain promote (piece_at (put_on q arrived hands b).cells c) ≤ gains) × (HasBoardMove quiet_only (after (put_on q arrived hands b) (Board c d promote)))
     unfolding reaches
     other_moves off =
@@ -351,7 +351,7 @@ module _ (quiet_only : Bool) (q : Shogi) (e : Eval) (gains king squares kept_emp
       (λ home. by_spare (cells_after (put_on q arrived hands b).cells q.side (Drop other d)) (after (put_on q arrived hands b) (Drop other d)).hands d home.1
       (left_drop (put_on q arrived hands b) other d v hd) (shut_drop (put_on q arrived hands b) other d v hd (harmless_now (dropped q.side other) d one.0 home.0 one.3)) none)
 
-  -- so it gains no more than it did, and mates by nothing
+  -- no move gains more than before, and none mates
   pub bounded : (t : ℤ) → (material_of (put_on q arrived hands b) e +ℤ pos gains) ≤ℤ t → IsBoundedAndAnswered quiet_only (put_on q arrived hands b) e t
   bounded t room = record {
     gains = λ c on l. few c on l;

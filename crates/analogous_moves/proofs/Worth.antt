@@ -1,4 +1,4 @@
--- A move is worth no more than what is left after it and a reply.
+-- A move is worth no more than the position after it and a reply.
 use Rattle.std.proofs.Common.{◌≡◌, ◌≢◌, ℕ, ℤ, pos, ◌+◌, ◌-◌, ◌/◌, ◌%◌, ◌<◌, ◌-ℤ◌, ◌+ℤ◌, ◌≤ℤ◌, true, false, suc, refl, List, [], ◌∷◌, Some, sym, ap, subst, ◌∙◌, inl, inr, arith}
 use Rattle.std.specs.Prelude.{◌==◌, ◌⊎◌, Bool, is_none}
 use Rattle.std.proofs.lemmas.Bool.{cases_lt}
@@ -31,7 +31,7 @@ use Rattle.analogous_moves.specs.Analogies.{IsOnSquares, ReplySuffices, MoveIsWo
 use Rattle.analogous_moves.proofs.Materials.{material_after, move_valid}
 use Rattle.analogous_moves.proofs.Squares.{move_back}
 
--- the plies after a move are worth no more than those after a reply to it
+-- a move is worth no more than the position after a legal reply to it
 worth_by_reply : (p : Shogi) (e : Eval) (d : ℕ) (m r : Move) (t : ℤ) → IsOnSquares m → IsOnSquares r → is_legal (after p m) r ≡ true → value (after (after p m) r) e (suc d) ≤ℤ t → worth p e (suc (suc d)) (code_of m) ≤ℤ t
 worth_by_reply p e d m r t on there l low =
     let reply : worth (after p m) e (suc d) (code_of r) ≡ pos 0 -ℤ value (after (after p m) r) e (suc d) = ap (λ (q : Shogi). pos 0 -ℤ value q e (suc d)) (after_code_of (after p m) r (move_back r there)) in
@@ -41,13 +41,13 @@ worth_by_reply p e d m r t on there l low =
     let here : worth p e (suc (suc d)) (code_of m) ≡ pos 0 -ℤ value (after p m) e (suc (suc d)) = ap (λ (q : Shogi). pos 0 -ℤ value q e (suc (suc d))) (after_code_of p m (move_back m on)) in
     omega (arith, ints)
 
--- ---- what is true of each legal move
+-- ---- a bound for each legal move
 
 at_most : (otherwise : ℤ) (f : ℕ → ℤ) (codes : List ℕ) (t : ℤ) → otherwise ≤ℤ t → ((n : ℕ) → is_in n codes ≡ true → f n ≤ℤ t) → greatest_or otherwise f codes ≤ℤ t
 at_most otherwise f [] t low each = low
 at_most otherwise f (code ∷ codes) t low each = greatest_least f code codes t each
 
--- the value is no more than what each legal move is worth at most
+-- the value is at most a bound of what each legal move is worth
 value_at_most : (q : Shogi) (e : Eval) (d : ℕ) (t : ℤ) → lost_value (suc d) ≤ℤ t → ((code : ℕ) (c : Move) → is_in code (legal_codes q) ≡ true → after_code q code ≡ after q c → IsOnSquares c → is_legal q c ≡ true → worth q e d code ≤ℤ t) → value q e (suc d) ≤ℤ t
 value_at_most q e d t low each = subst (λ (w : ℤ). w ≤ℤ t) (sym (value-suc q e d)) (at_most (lost_value (suc d)) (worth q e d) (legal_codes q) t low (λ code listed.
     let below : code < MOVE_CODE_COUNT = legal_code_below q code (legal_in q 0 code listed) in
@@ -59,13 +59,13 @@ value_at_most q e d t low each = subst (λ (w : ℤ). w ≤ℤ t) (sym (value-su
     of_move : (code : ℕ) (c : Move) → is_in code (legal_codes q) ≡ true → move_of code ≡ Some c → IsOnSquares c → worth q e d code ≤ℤ t
     of_move code c listed at on = each code c listed (after_code_at q code c at) on (sym (is_legal_code_of q code c at) ∙ legal_in q 0 code listed)
 
--- ---- one ply is worth no more than its moves gain, where none mates
+-- ---- one ply is worth at most what its moves gain, if none mates
 
--- a move of a piece that stays as it is is legal, to an empty square if that is to be quiet
+-- a board move without promotion is legal, and ends on an empty square if it has to be quiet
 abbrev pub HasBoardMove : Bool → Shogi → Type 0
 HasBoardMove quiet_only q = ((from to : ℕ) → from < 81 → to < 81 → is_legal q (Board from to false) ≡ true → (quiet_only ≡ true → is_none (piece_at q.cells to) ≡ true) → ⊥) → ⊥
 
--- each legal move of the position gains so little, and the other side has a move on the board after it
+-- each legal move gains at most the margin, and the other side then has such a board move
 pub record IsBoundedAndAnswered (quiet_only : Bool) (q : Shogi) (e : Eval) (t : ℤ) : Type 0 where
   pub least : material_of q e ≤ℤ t
   pub gains : (c : Move) → IsOnSquares c → is_legal q c ≡ true → (material_of q e +ℤ gain_of q e c) ≤ℤ t
@@ -81,9 +81,9 @@ value_of_bounded quiet_only q e t v low bounded = value_at_most q e 0 t low (λ 
     let few : (material_of q e +ℤ gain_of q e c) ≤ℤ t = bounded.gains c on l in
     omega (arith, ints))
 
--- ---- nor are two, if captures at the end are not settled, or that move is quiet: it loses its side nothing
+-- ---- two plies are worth no more either, if the last move is quiet or captures are not settled: it loses its side nothing
 
--- nothing is settled after the move
+-- no exchange is settled after the move
 left_raw : (quiet_only : Bool) (s : Shogi) (e : Eval) (from to : ℕ) → (resolves_captures e ≡ false) ⊎ (quiet_only ≡ true) → from < 81 → to < 81 → (quiet_only ≡ true → is_none (piece_at s.cells to) ≡ true) → leaf_after s e (code_of (Board from to false)) ≡ material_of (after_code s (code_of (Board from to false))) e
 left_raw quiet_only s e from to (inl raw) hf ht bare = left_plain s e (code_of (Board from to false)) raw
 left_raw quiet_only s e from to (inr only) hf ht bare = left_quiet s e (code_of (Board from to false)) (ap (is_quiet s) (move_back (Board from to false) (hf, ht)) ∙ bare only)
@@ -92,7 +92,7 @@ ended_at_most : (s : Shogi) (e : Eval) (code : ℕ) (codes : List ℕ) (t : ℤ)
 ended_at_most s e code [] t at low leaf = subst (λ (w : ℤ). w ≤ℤ t) (sym (ap (if_no_move_else (lost_value 0) (leaf_after s e code)) at)) low
 ended_at_most s e code (next ∷ more) t at low leaf = subst (λ (w : ℤ). w ≤ℤ t) (sym (ap (if_no_move_else (lost_value 0) (leaf_after s e code)) at)) leaf
 
--- a move on the board is worth no less than what its side has
+-- the board move is worth at least the material of its side
 board_worth : (quiet_only : Bool) (s : Shogi) (e : Eval) (from to : ℕ) → IsValid s → (resolves_captures e ≡ false) ⊎ (quiet_only ≡ true) → from < 81 → to < 81 → is_legal s (Board from to false) ≡ true → (quiet_only ≡ true → is_none (piece_at s.cells to) ≡ true) → material_of s e ≤ℤ worth s e 0 (code_of (Board from to false))
 board_worth quiet_only s e from to v raw hf ht l bare =
     let there : after_code s (code_of (Board from to false)) ≡ after s (Board from to false) = after_code_of s (Board from to false) (move_back (Board from to false) (hf, ht)) in
@@ -103,7 +103,7 @@ board_worth quiet_only s e from to v raw hf ht l bare =
     let little : ended s e (code_of (Board from to false)) ≤ℤ (pos 0 -ℤ material_of s e) = ended_at_most s e (code_of (Board from to false)) (legal_codes (after_code s (code_of (Board from to false)))) (pos 0 -ℤ material_of s e) refl (omega (arith, ints)) (omega (arith, ints)) in
     omega (arith, ints)
 
--- so a side that has such a move is worth no less
+-- a side with such a move is worth at least its material
 value_least : (quiet_only : Bool) (s : Shogi) (e : Eval) → IsValid s → (resolves_captures e ≡ false) ⊎ (quiet_only ≡ true) → HasBoardMove quiet_only s → material_of s e ≤ℤ value s e 1
 value_least quiet_only s e v raw has = by_lt_z (value s e 1) (material_of s e)
     (λ less. absurd (has (λ from to hf ht l bare. (
@@ -122,9 +122,9 @@ two_plies_of_bounded quiet_only q e t v raw bounded =
     let few : (material_of q e +ℤ gain_of q e c) ≤ℤ t = bounded.gains c on l in
     omega (arith, ints)))
 
--- ---- what a move is worth after which a reply leaves so little
+-- ---- the bound after a move and a reply
 
--- the position is worth at most so much with two plies less than so many
+-- the position is worth at most `t` with two plies less than `depth`
 abbrev pub AreAtMost : Shogi → Eval → ℕ → ℤ → Type 0
 AreAtMost q e depth t = value q e (depth - 2) ≤ℤ t
 

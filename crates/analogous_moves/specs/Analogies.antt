@@ -1,4 +1,4 @@
--- Drops and quiet moves three or four plies before the end that change nothing of what one reply refutes (own choice).
+-- The method of analogies: drops and quiet moves with three or four plies left that one reply refutes, since they change nothing that the refutation relies on (own choice).
 use Rattle.std.specs.Prelude.{ℕ, ◌≡◌, ◌≢◌, ◌⊎◌, ◌<◌, ◌≤◌, ◌≤ℤ◌, ◌+◌, ◌-◌, ℤ, Bool, true, false, Option, None, Some, is_none, length, slice_set}
 use Rattle.shogi_core.specs.declared.moves.Move.{Move}
 use Rattle.shogi_core.specs.declared.moves.Move.TheVariants.{Board, Drop}
@@ -29,23 +29,23 @@ use Rattle.analogous_moves.specs.declared.moves.DropSquares.{DropSquares}
 use Rattle.analogous_moves.specs.declared.moves.AnalogousMoves.{AnalogousMoves}
 use Rattle.analogous_moves.specs.declared.passed_reply.ForbiddenSquares.{ForbiddenSquares}
 
--- the position after a pass: the other side is to move
+-- the position after a pass: the opponent is to move
 abbrev pub passed : Shogi → Shogi
 passed p = record { cells = p.cells; hands = p.hands; side = opponent_of p.side }
 
--- the position after a pass and a reply: the first side is to move again
+-- the position after a pass and the reply: the side that passed is to move again
 abbrev pub after_reply : Shogi → Move → Shogi
 after_reply p r = after (passed p) r
 
--- the position in which a piece is lifted from its square
+-- the position with the square `a` emptied
 abbrev pub lifted : Shogi → ℕ → Shogi
 lifted q a = record { cells = slice_set q.cells a None; hands = q.hands; side = q.side }
 
--- the position in which this is put on a square
+-- the position with this piece put on the square `b`
 abbrev pub placed : Shogi → Option Piece → ℕ → Shogi
 placed q cell b = record { cells = slice_set q.cells b cell; hands = q.hands; side = q.side }
 
--- the squares that the move names are on the board
+-- the squares of the move are on the board
 abbrev pub IsOnSquares : Move → Type 0
 IsOnSquares (Board from to promote) = (from < 81) × (to < 81)
 IsOnSquares (Drop kind to) = to < 81
@@ -61,44 +61,44 @@ IsOffWay (Board from to promote) n = (d : ℕ) → d < 8 → is_on_ray (directio
     → is_on_ray (direction_at d) n to ≡ false
 IsOffWay (Drop kind to) n = Unit {0}
 
--- the square is none of the move's, and not between them
+-- the square is neither one of the move's nor between them
 abbrev pub IsClearOf : Move → ℕ → Type 0
 IsClearOf r n = IsOff r n × IsOffWay r n
 
--- the squares of the set are so
+-- the set has the squares of the move and all between them
 abbrev pub CoversMove : Move → ℕ → Type 0
 CoversMove r set = (n : ℕ) → n < 81 → has_bit set n ≡ false → IsClearOf r n
 
--- a drop that lets the reply be: it touches nothing of it, gives no check after a pass and the reply, and the reply drops no pawn
+-- the drop leaves the reply legal: it is clear of the reply, which drops no pawn, and gives no check after a pass and the reply
 pub record LeavesReplyLegal (p : Shogi) (kind : Kind) (to : ℕ) (r : Move) : Type 0 where
   pub spared : IsClearOf r to
   pub harmless :
       IsHarmless (after_reply p r).cells (opponent_of p.side) (dropped p.side kind) to
   pub plain : is_pawn_drop r ≡ false
 
--- from the square where it stands, this reaches not each of the squares: one is left, another than that where it stands if replies have to be quiet
+-- from the square `n`, this piece does not attack all of the squares: one is left, another than `n` itself if replies have to be quiet
 abbrev pub LeavesReplySquare : Bool → Cells → Option Piece → ℕ → ℕ → Type 0
 LeavesReplySquare quiet_only cells cell n squares = (e : ℕ) × (e < 81) × (has_bit squares e ≡ true)
     × (cell_reaches cells cell n e ≡ false) × (quiet_only ≡ true → e ≢ n)
 
--- the squares of a board on which the king of the side that is not to move has left its own
+-- the board without the enemy king, so that attacks pass through its square
 abbrev pub without_king : Shogi → ℕ → Cells
 without_king q king = slice_set q.cells king None
 
--- a move of this from a square to another one gains no more than so much, and leaves one of the squares
+-- the move of this piece to the square `n` is no threat: it gains at most `gains`, and leaves one of the reply squares unattacked
 pub record IsNoThreat (quiet_only : Bool) (q : Shogi) (e : Eval) (gains king : ℕ)
     (cell : Option Piece) (squares n : ℕ) (promote : Bool) : Type 0 where
   pub gain : taken_gain e (piece_at q.cells n) + promotion_gain promote cell ≤ gains
   pub leaves : LeavesReplySquare quiet_only (without_king q king) (piece_moved promote cell) n
       squares
 
--- no capture on a square that is not in the set gains more than so much
+-- the set has each square on which a capture gains more than `most`
 abbrev pub AreCapturesAbove : Cells → Color → Eval → ℕ → ℕ → Type 0
 AreCapturesAbove cells side e most set = (n : ℕ) → n < 81
     → is_piece_of side (piece_at cells n) ≡ false
     → has_bit set n ≡ false → taken_gain e (piece_at cells n) ≤ most
 
--- off the set, promotions of this gain no more than so much, with what they take and without, and leave the king one of some squares
+-- off the set, a promotion of the piece gains at most `gains`, with and without a capture, and leaves one of the reply squares
 pub record AllowsPromotions (quiet_only : Bool) (q : Shogi) (e : Eval) (gains king : ℕ)
     (piece : Piece) (squares set : ℕ) : Type 0 where
   pub leaves : (n : ℕ) → n < 81 → has_bit set n ≡ false
@@ -109,7 +109,7 @@ pub record AllowsPromotions (quiet_only : Bool) (q : Shogi) (e : Eval) (gains ki
       → is_piece_of q.side (piece_at q.cells n) ≡ false
       → taken_gain e (piece_at q.cells n) + promotion_gain true (Some piece) ≤ gains
 
--- off the one set, moves of this that do not promote gain no more than so much and leave the king one of some squares, and off the other one those that do
+-- off the one set, moves of the piece without promotion gain at most `gains` and leave a reply square; off the other, promotions do
 pub record Allows (quiet_only : Bool) (q : Shogi) (e : Eval) (gains king : ℕ) (piece : Piece)
     (squares : ℕ) (forbidden : ForbiddenSquares) : Type 0 where
   pub leaves : (n : ℕ) → n < 81 → has_bit forbidden.non_promoting.bits n ≡ false
@@ -118,7 +118,7 @@ pub record Allows (quiet_only : Bool) (q : Shogi) (e : Eval) (gains king : ℕ) 
   pub promotions : AllowsPromotions quiet_only q e gains king piece squares
       forbidden.promoting.bits
 
--- the squares of a set that are on no line with a square
+-- the set has only those of the squares that share no rank, file or diagonal with `from`
 abbrev pub AreOffLines : ℕ → ℕ → ℕ → Type 0
 AreOffLines from squares set = (n : ℕ) → n < 81 → has_bit set n ≡ true
     → (has_bit squares n ≡ true) × (are_aligned from n ≡ false)
@@ -127,7 +127,7 @@ AreOffLines from squares set = (n : ℕ) → n < 81 → has_bit set n ≡ true
 abbrev pub moved : Cells → ℕ → ℕ → Cells
 moved cells from n = slice_set (slice_set cells from None) n (piece_at cells from)
 
--- the move leaves the king of its side attacked, whatever comes to stand off the set
+-- the move from `from` to `n` leaves its own king attacked, as long as nothing comes to stand on the set
 pub record ExposesOwnKing (q : Shogi) (kept_empty from n : ℕ) : Type 0 where
   pub foe : ℕ
   pub home : ℕ
@@ -137,7 +137,7 @@ pub record ExposesOwnKing (q : Shogi) (kept_empty from n : ℕ) : Type 0 where
   pub attacks : reaches (moved q.cells from n) foe home ≡ true
   pub way : CoversMove (Board foe home false) kept_empty
 
--- a move of what stands on the square gains no more than so much, and leaves unattacked one of the squares that is on no line with it
+-- the move is no threat, judged by reply squares off the lines through `from` alone
 abbrev pub IsNoThreatOffLines : Bool → Shogi → Eval → ℕ → ℕ → ℕ → ℕ → ℕ → Bool → Type 0
 IsNoThreatOffLines quiet_only q e gains king squares from n promote =
     (taken_gain e (piece_at q.cells n) + promotion_gain promote (piece_at q.cells from) ≤ gains)
@@ -145,7 +145,7 @@ IsNoThreatOffLines quiet_only q e gains king squares from n promote =
     × LeavesReplySquare quiet_only (without_king q king)
     (piece_moved promote (piece_at q.cells from)) n set)
 
--- the moves on the board of what stands on the square do so, but those that leave their own king attacked
+-- each board move of the piece on `from` is no threat, or exposes its own king
 abbrev pub PieceHasNoThreat : Bool → Shogi → Eval → ℕ → ℕ → ℕ → ℕ → ℕ → Type 0
 PieceHasNoThreat quiet_only q e gains king squares kept_empty from =
     (n : ℕ) (promote : Bool) → n < 81
@@ -155,39 +155,39 @@ PieceHasNoThreat quiet_only q e gains king squares kept_empty from =
     → IsNoThreatOffLines quiet_only q e gains king squares from n promote
     ⊎ ExposesOwnKing q kept_empty from n
 
--- a drop of the kind leaves one of the squares wherever it may end
+-- a drop of the kind leaves one of the reply squares, wherever it may end
 abbrev pub DropsAreNoThreat : Bool → Shogi → ℕ → ℕ → Kind → Type 0
 DropsAreNoThreat quiet_only q king squares kind = (n : ℕ) → n < 81 → piece_at q.cells n ≡ None
     → is_immobile n (dropped q.side kind) ≡ false
     → LeavesReplySquare quiet_only (without_king q king) (dropped q.side kind) n squares
 
--- a piece of the side that is not to move, on no line with its king, steps to an empty square
+-- a piece of the opponent, on no line with its king, steps to an empty square
 pub record IsSpareMove (q : Shogi) (king a t : ℕ) : Type 0 where
   pub own : is_piece_of (opponent_of q.side) (piece_at q.cells a) ≡ true
   pub off_king : a ≢ king
   pub off_lines : are_aligned king a ≡ false
   pub step : is_quiet_step q.cells a t ≡ true
 
--- it has such a step whatever one square is filled, and wherever a move ends
+-- there is a spare move whatever square `b` is filled first, and whatever square `d` the next move ends on
 abbrev pub HasSpareMoves : Shogi → ℕ → Type 0
 HasSpareMoves q king = (b d : ℕ) → (a : ℕ) × (t : ℕ) × (a < 81) × (t < 81) × (a ≢ d) × (t ≢ d)
     × (t ≢ b) × IsSpareMove q king a t
 
--- one of both holds
+-- one of two statements holds, without saying which
 abbrev pub HoldsEither : Type 0 → Type 0 → Type 0
 HoldsEither A B = (A → ⊥) → (B → ⊥) → ⊥
 
--- the king may go to the square, which is empty if replies have to be quiet
+-- the square is a flight square of the king, and empty if replies have to be quiet
 pub record IsFlight (quiet_only : Bool) (q : Shogi) (king n : ℕ) : Type 0 where
   pub escape : IsEscape q.cells (opponent_of q.side) king n
   pub bare : quiet_only ≡ true → is_none (piece_at q.cells n) ≡ true
 
--- one of the squares that is not attacked leaves that side a reply: the king may go there, or it is the king's own and there are spare moves
+-- each of the squares leaves the opponent a reply while not attacked: its king may go there, or stands there and there are spare moves
 abbrev pub AreReplySquares : Bool → Shogi → ℕ → ℕ → Type 0
 AreReplySquares quiet_only q king squares = (n : ℕ) → n < 81 → has_bit squares n ≡ true
     → HoldsEither (IsFlight quiet_only q king n) ((n ≡ king) × HasSpareMoves q king)
 
--- the only king of the side that is not to move stands there unattacked, and these squares leave its side a reply
+-- the opponent's only king stands on `king` and is not in check, and these are its reply squares
 pub record KingHasReplies (quiet_only : Bool) (q : Shogi) (king squares : ℕ) : Type 0 where
   pub cells_fit : length q.cells ≡ 81
   pub king_fits : king < 81
@@ -196,7 +196,7 @@ pub record KingHasReplies (quiet_only : Bool) (q : Shogi) (king squares : ℕ) :
   pub unchecked : in_check q.cells (opponent_of q.side) ≡ false
   pub replies : AreReplySquares quiet_only q king squares
 
--- the side to move gains no more than so much by any move on the board, and whatever it moves or drops, one of the squares is left
+-- the side to move has no threat on the board or by drops
 pub record HasNoThreats (quiet_only : Bool) (q : Shogi) (e : Eval)
     (gains king squares kept_empty : ℕ) : Type 0 where
   pub king_replies : KingHasReplies quiet_only q king squares
@@ -205,7 +205,7 @@ pub record HasNoThreats (quiet_only : Bool) (q : Shogi) (e : Eval)
   pub kinds : (kind : Kind) → 0 < count_in_hand q.hands q.side kind
       → DropsAreNoThreat quiet_only q king squares kind
 
--- once a piece of its side has left the square `a`, what stands on the square `from` moves calmly to `a`, and to squares that it did not reach before
+-- once a piece of its side has left `a`, the piece on `from` has no new threat: none at `a`, and none on squares that it did not reach before
 pub record PieceGetsNoThreat (quiet_only : Bool) (q : Shogi) (e : Eval)
     (gains king squares from a : ℕ) : Type 0 where
   pub no_threat : (n : ℕ) (promote : Bool) → n < 81
@@ -219,18 +219,18 @@ pub record PieceGetsNoThreat (quiet_only : Bool) (q : Shogi) (e : Eval)
       × LeavesReplySquare quiet_only (without_king q king)
       (piece_moved promote (piece_at q.cells from)) n set)
 
--- a drop of the kind on the square leaves one of the squares
+-- a drop of the kind on `a`, once emptied, leaves one of the reply squares
 abbrev pub DropGetsNoThreat : Bool → Shogi → ℕ → ℕ → Kind → ℕ → Type 0
 DropGetsNoThreat quiet_only q king squares kind a = is_immobile a (dropped q.side kind) ≡ false
     → LeavesReplySquare quiet_only (without_king q king) (dropped q.side kind) a squares
 
--- the square is on no open line with the king or one of its squares
+-- the square is on no open line with the king or a reply square, so that leaving it opens no attack on them
 pub record IsOffOpenLines (q : Shogi) (king squares a : ℕ) : Type 0 where
   pub off_king : are_lined (without_king q king) a king ≡ false
   pub off_squares : (n : ℕ) → n < 81 → has_bit squares n ≡ true
       → are_lined (without_king q king) a n ≡ false
 
--- this, on the square, reaches neither the king nor one of its squares, and what it does next is calm
+-- this piece on `to` attacks neither the king nor a reply square, and no next move of it is a threat
 pub record IsUnthreatening (quiet_only : Bool) (q : Shogi) (e : Eval) (gains king squares : ℕ)
     (cell : Option Piece) (to : ℕ) : Type 0 where
   pub off : has_bit squares to ≡ false
@@ -243,39 +243,39 @@ pub record IsUnthreatening (quiet_only : Bool) (q : Shogi) (e : Eval) (gains kin
       → (promote ≡ true → may_promote cell to n ≡ true)
       → IsNoThreat quiet_only q e gains king cell squares n promote
 
--- so it is on each of the squares
+-- this piece is unthreatening on each square of the set
 abbrev pub AreUnthreatening : Bool → Shogi → Eval → ℕ → ℕ → ℕ → Option Piece → ℕ → Type 0
 AreUnthreatening quiet_only q e gains king squares cell set =
     (n : ℕ) → n < 81 → has_bit set n ≡ true
     → IsUnthreatening quiet_only q e gains king squares cell n
 
--- a reply that is left bounds what a move is worth: with three plies left any does, and with four one that is quiet, or any if the evaluation settles no captures
+-- a reply that bounds the value after the next move: any at depth 3; at depth 4 a quiet one, or any if captures are not settled
 abbrev pub ReplySuffices : Bool → Eval → ℕ → Type 0
 ReplySuffices quiet_only e depth = (depth ≡ 3)
     ⊎ ((depth ≡ 4) × ((resolves_captures e ≡ false) ⊎ (quiet_only ≡ true)))
 
--- the move is worth no more than so much with so many plies left
+-- the move is worth at most `most` with `depth` plies left
 abbrev pub MoveIsWorthAtMost : Shogi → Eval → ℕ → ℤ → Move → Type 0
 MoveIsWorthAtMost p e depth most m = worth p e (depth - 1) (code_of m) ≤ℤ most
 
--- no legal drop of the kind on the squares is worth more than that
+-- each legal drop of the kind on the squares is worth at most `most`
 abbrev pub DropsAreWorthAtMost : Shogi → Eval → ℕ → ℤ → Kind → ℕ → Type 0
 DropsAreWorthAtMost p e depth most kind squares = (to : ℕ) → to < 81 → has_bit squares to ≡ true
     → is_legal p (Drop kind to) ≡ true → MoveIsWorthAtMost p e depth most (Drop kind to)
 
--- no legal move of the pieces to the ends is that takes nothing and does not promote
+-- each legal move from `pieces` to `ends` that neither captures nor promotes is worth at most `most`
 abbrev pub QuietsAreWorthAtMost : Shogi → Eval → ℕ → ℤ → ℕ → ℕ → Type 0
 QuietsAreWorthAtMost p e depth most pieces ends = (from to : ℕ) → from < 81 → to < 81
     → has_bit pieces from ≡ true → has_bit ends to ≡ true → piece_at p.cells to ≡ None
     → is_legal p (Board from to false) ≡ true
     → MoveIsWorthAtMost p e depth most (Board from to false)
 
--- the move takes nothing and does not promote
+-- the move neither captures nor promotes
 abbrev pub IsQuietMove : Shogi → Move → Type 0
 IsQuietMove p (Board from to promote) = (promote ≡ false) × (piece_at p.cells to ≡ None)
 IsQuietMove p (Drop kind to) = Unit {0}
 
--- the squares for drops of the kind
+-- the destinations for drops of the kind
 abbrev pub drops_of : DropSquares → Kind → Squares
 drops_of drops kinds.Pawn = drops.pawn
 drops_of drops kinds.Lance = drops.lance
@@ -285,13 +285,13 @@ drops_of drops kinds.Gold = drops.gold
 drops_of drops kinds.Bishop = drops.bishop
 drops_of drops kinds.Rook = drops.rook
 
--- the move is one of these, if it is quiet
+-- the sets hold the move, if it is quiet
 abbrev pub IsOneOf : AnalogousMoves → Move → Type 0
 IsOneOf d (Board from to promote) =
     (has_bit d.pieces.bits from ≡ true) × (has_bit d.ends.bits to ≡ true)
 IsOneOf d (Drop kind to) = has_bit (drops_of d.drops kind).bits to ≡ true
 
--- no legal quiet move that is one of these is worth more than that with so many plies left
+-- each legal quiet move that the sets hold is worth at most their bound with `depth` plies left
 abbrev pub AreAnalogous : Shogi → Eval → ℕ → AnalogousMoves → Type 0
 AreAnalogous p e depth d = (m : Move) → IsOnSquares m → IsOneOf d m → IsQuietMove p m
     → is_legal p m ≡ true → MoveIsWorthAtMost p e depth d.most m

@@ -1,9 +1,11 @@
-//! Moves three or four plies before the end that one reply refutes, found by squares alone.
+//! Moves three or four plies before the end that a known refutation also refutes, found on squares
+//! without searching them: the method of analogies.
 //!
-//! Let a reply be legal after a pass, let its other side then gain no more than so much by any move,
-//! and let the king that it defends keep a square to go to after each check. A drop that touches nothing
-//! of that is answered by the reply, and is worth no more, nor a quiet move of a piece that had no part
-//! in it. `AnalogousMoves` has such moves.
+//! We are the side to move at a node, and the opponent makes the reply. After a move of ours has
+//! failed low to a reply, `AnalogousMoves::of` asks what we could do if we had passed and the
+//! opponent had made that reply. A threat is a move of ours from there that gains more than the bound
+//! allows, or leaves the opponent no reply. If we have none, the reply also refutes every drop and
+//! quiet move that changes nothing this rests on.
 #![tactic(auto)]
 
 mod moves;

@@ -1,4 +1,4 @@
-//! Moves that change nothing of what a reply refutes.
+//! Moves that a reply refutes because they change nothing that the refutation relies on.
 
 ghost use Rattle.std.specs.Prelude.{◌≡◌, ◌⊎◌, ◌≤ℤ◌, ◌<ℤ◌, ◌+ℤ◌, ℕ, pos, true, IfSome};
 ghost use Rattle.shogi_moves.specs.Legal.{is_pawn_drop};
@@ -15,7 +15,7 @@ use shogi_core::{Kind, Move, Position, Squares};
 use shogi_eval::{Eval, Node};
 use shogi_moves::{in_check, is_legal};
 
-/// Squares for drops, by kind.
+/// Destinations of drops, a set for each kind of piece.
 #[derive(Clone, Copy, Debug)]
 pub struct DropSquares {
     pub pawn: Squares,
@@ -28,7 +28,7 @@ pub struct DropSquares {
 }
 
 impl DropSquares {
-    /// Those for drops of the kind.
+    /// The destinations for drops of the kind.
     pub fn of(&self, kind: Kind) -> Squares
         ensures { result ≡ drops_of self.now kind }
     {
@@ -44,8 +44,9 @@ impl DropSquares {
     }
 }
 
-/// Moves none of which is worth more than so much with three plies left, or with four: drops on squares for
-/// their kind, and moves of these pieces to these ends that take nothing and do not promote.
+/// Moves of one node that one reply refutes: drops to `drops`, and moves from `pieces` to `ends`
+/// that neither capture nor promote. With three or four plies left, none is worth more than `most`,
+/// in points for the side to move. Illegal moves may be among them.
 #[derive(Clone, Copy, Debug)]
 pub struct AnalogousMoves {
     pub most: i32,
@@ -67,8 +68,8 @@ fn drops_pawn(m: &Move) -> bool
     )
 }
 
-/// The position as it is looked at, where its material is not more than so much and the side that is not
-/// to move has just one king.
+/// Prepares `node`, the position after our pass and the reply. `None` if its score exceeds `most`,
+/// or the opponent has not exactly one king.
 fn passed_reply_of(node: Node, most: i32, quiet_only: bool) -> Option<PassedReply>
     requires most { most <ℤ INFINITY }
     ensures node { IfSome result (λ replied. replied.node ≡ node) }
@@ -99,8 +100,8 @@ fn passed_reply_of(node: Node, most: i32, quiet_only: bool) -> Option<PassedRepl
     })
 }
 
-/// Whether a reply to what the side moves next has to be quiet: with four plies left it ends the line, where
-/// a capture or promotion is settled under `Exchange`.
+/// Whether the opponent's answer to our next move has to be quiet: at depth 4 it is the last ply,
+/// where a capture or promotion could lose material under `Exchange`.
 fn needs_quiet(eval: Eval, depth: u8) -> bool
     requires deep { (depth ≡ 3) ⊎ (depth ≡ 4) }
     ensures { ReplySuffices result eval depth }
@@ -108,7 +109,8 @@ fn needs_quiet(eval: Eval, depth: u8) -> bool
     depth == 4 && eval.resolves_captures()
 }
 
-/// The squares of drops that are idle, by kind.
+/// For each kind, the squares of `free` on which a dropped piece makes no threat; all of `free` if
+/// none is in hand.
 fn unthreatening_drops(replied: &PassedReply, free: Squares) -> DropSquares
     ensures among { (kind : Kind) (n : ℕ) → has_bit (drops_of result kind).bits n ≡ true
         → has_bit free.bits n ≡ true }
@@ -127,7 +129,8 @@ fn unthreatening_drops(replied: &PassedReply, free: Squares) -> DropSquares
 }
 
 impl AnalogousMoves {
-    /// Whether the move is one of these, if it takes nothing and does not promote.
+    /// Whether the sets hold the move. The move must neither capture nor promote; this is not
+    /// tested.
     pub fn has(&self, m: &Move) -> bool
         ensures among { result ≡ true → IsOneOf self.now m.now }
         ensures on_board { IsOnSquares m.now }
@@ -145,10 +148,11 @@ impl AnalogousMoves {
         }
     }
 
-    /// The moves that the reply refutes since they change nothing of what it leaves: none is worth more
-    /// than so much with `depth` plies left, 3 or 4. There are none if the reply is not legal after a pass, or
-    /// drops a pawn, or leaves the side to move more, or a check after which the king that it defends has no
-    /// square to go to.
+    /// The drops and quiet moves that `reply` refutes as it refutes a pass: with `depth` plies
+    /// left, 3 or 4, none is worth more than `most`, in points for the side to move. `None` if we
+    /// are in check, `most` is below the value of being mated, or the reply drops a pawn, is
+    /// illegal after a pass, or leaves us a threat. A pawn drop is refused because our move could
+    /// turn it into an illegal pawn-drop mate.
     pub fn of(node: &Node, reply: Move, most: i32, depth: u8) -> Option<AnalogousMoves>
         requires deep { (depth ≡ 3) ⊎ (depth ≡ 4) }
         requires most { most <ℤ INFINITY }

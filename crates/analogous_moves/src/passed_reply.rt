@@ -1,4 +1,4 @@
-//! What the side to move can do after a pass and a reply, by squares, whether it is legal or not.
+//! What the side to move can do after a pass and a reply, found on squares; legality is not tested.
 
 ghost use Rattle.std.specs.Prelude.{◌≡◌, ◌<◌, ℕ, true, false, None, Some, IfSome, slice_set};
 ghost use Rattle.std.proofs.Props.{props};
@@ -14,7 +14,7 @@ use shogi_eval::{Eval, Node, promotion_gain, taken_gain};
 use shogi_moves::{dropped, piece_moved};
 use shogi_replies::squares_between;
 
-/// The squares of a move, and those between.
+/// The squares of a move and those between them.
 pub fn squares_touched(reply: &Move) -> Squares
     ensures spared { CoversMove reply.now result.bits }
     ensures on_board { IsOnSquares reply.now }
@@ -32,8 +32,8 @@ pub fn squares_touched(reply: &Move) -> Squares
     }
 }
 
-/// Squares from which the piece takes each of some squares from a king: it reaches that, or stands on it if
-/// replies have to be quiet.
+/// Squares from which `piece` attacks all of `squares`; if replies have to be quiet, it also covers
+/// the square on which it stands.
 pub fn covering_squares(board: &Board, piece: Piece, squares: Squares, quiet_only: bool) -> Squares
     ensures { (n : ℕ) → n < 81 → has_bit result.bits n ≡ false
         → LeavesReplySquare quiet_only board.now (Some piece) n squares.bits }
@@ -59,7 +59,7 @@ pub fn covering_squares(board: &Board, piece: Piece, squares: Squares, quiet_onl
     covered
 }
 
-/// Squares of pieces of the other side whose capture gains more than so much.
+/// Enemy pieces whose capture gains more than `most`.
 pub fn captures_above(board: &Board, side: Color, eval: Eval, most: u32) -> Squares
     ensures { AreCapturesAbove board.now side eval most result.bits }
 {
@@ -67,8 +67,7 @@ pub fn captures_above(board: &Board, side: Color, eval: Eval, most: u32) -> Squa
     foes.sift(|square| taken_gain(eval, board.at(square)) > most)
 }
 
-/// Squares to which moves of a piece gain too much or leave none of some squares, without promotion
-/// and with it.
+/// Destinations at which a move of a piece is a threat, without and with promotion.
 #[derive(Clone, Copy)]
 pub struct ForbiddenSquares {
     pub non_promoting: Squares,
@@ -76,7 +75,7 @@ pub struct ForbiddenSquares {
 }
 
 impl ForbiddenSquares {
-    /// Those of the targets to which a move of the piece is forbidden.
+    /// The forbidden ones among `targets` for this piece on `from`.
     fn among(&self, piece: Piece, from: Square, targets: Squares) -> Squares
         ensures within { (n : ℕ) → has_bit result.bits n ≡ true → has_bit targets.bits n ≡ true }
         ensures non_promoting { (n : ℕ) → has_bit targets.bits n ≡ true
@@ -90,17 +89,18 @@ impl ForbiddenSquares {
     }
 }
 
-/// Squares to and from which no moves are idle: with pieces that have to stay, and others on which
-/// nothing may come to stand between a king and what attacks it.
+/// What a refutation relies on: pieces that have to stay, and squares that have to stay empty so
+/// that attacks on our king stand.
 #[derive(Clone, Copy)]
 pub struct ReliedOn {
     pub pieces: Squares,
     pub empty: Squares,
 }
 
-/// The position after a pass and a reply, where a piece may be lifted: what stands, the only king
-/// of the side that has replied and the board without it, squares of which one that is not attacked
-/// leaves that side a reply, and what the side to move may gain.
+/// The position after our pass and the opponent's reply; one piece of ours may be lifted from
+/// `board`. `king` is the opponent's only king, and `kingless` the board without it. While one of
+/// `squares` is not attacked by us, the opponent has a reply. We may gain up to `gains` points;
+/// `captures` are the enemy pieces worth more.
 #[derive(Clone, Copy)]
 pub struct PassedReply {
     pub node: Node,
@@ -110,7 +110,7 @@ pub struct PassedReply {
     pub squares: Squares,
     pub gains: u32,
     pub captures: Squares,
-    /// Whether replies have to take nothing and may not promote.
+    /// Whether the opponent's reply must neither capture nor promote.
     pub quiet_only: bool,
     ghost is_kingless: { kingless ≡ slice_set board king None } by { Prim.hlevel props },
     ghost has_replies: { KingHasReplies quiet_only (record { cells = board; hands = node.position.hands; side = node.position.side }) king squares.bits } by { Prim.hlevel props },
@@ -120,14 +120,14 @@ pub struct PassedReply {
 impl PassedReply {
     ghost use Rattle.analogous_moves.specs.PassedReplies.{AllowsIn, AreUnthreateningDropsIn, AreUnthreateningEnds, IsUnthreateningFrom, AreUnthreateningIn, AreOffLinesIn, ExposeOwnKingIn, KingHasRepliesEachLifted, AreTargetsIn, IsAlike, IsUnthreateningIn, IsOwnIn, HasNoThreatsIn, HasNoThreatsWithout, KingHasRepliesLifted, CoversOpenLinesIn, DropsAreNoThreatIn, DropsGetNoThreatsIn, PieceHasNoThreatIn, PieceGetsNoThreatsIn, PieceGetsNoThreatIn, PiecesHaveNoThreatIn, PiecesGetNoThreatsIn, PromotionsAllowedIn, place_in};
 
-    /// The side to move.
+    /// The side to move: ours.
     fn side(&self) -> Color
         ensures { result ≡ self.now.node.position.side }
     {
         self.node.as_position().side()
     }
 
-    /// Squares to which promotions of the piece are forbidden.
+    /// Destinations at which a promotion of the piece gains too much or covers all of `squares`.
     fn forbidden_promotions(&self, piece: Piece, squares: Squares) -> Squares
         ensures { PromotionsAllowedIn self.now piece squares.bits result.bits }
     {
@@ -148,7 +148,8 @@ impl PassedReply {
         captures | covering_squares(&self.kingless, promoted, squares, self.quiet_only)
     }
 
-    /// Squares to which moves of the piece are forbidden that are to leave one of some squares.
+    /// Destinations at which a move of the piece gains too much or covers all of `squares`. Without
+    /// `promotes`, all promotions count as forbidden, since none can occur.
     fn forbidden_squares(&self, piece: Piece, squares: Squares, promotes: bool) -> ForbiddenSquares
         ensures { AllowsIn self.now piece squares.bits result }
     {
@@ -164,8 +165,8 @@ impl PassedReply {
         }
     }
 
-    /// What attacks the king of the side to move, and the way between, once the piece has moved from the
-    /// one square to the other.
+    /// An enemy piece that attacks our king after the move from `from` to `to`, with the king and
+    /// the squares between. `None` if there is none, so that the move may be legal.
     fn attacker_path(&self, piece: Piece, from: Square, to: Square) -> Option<Squares>
         requires stands { piece_at self.now.board from ≡ Some piece }
         ensures { IfSome result (λ path. ExposesOwnKing (place_in self.now) path.bits from to) }
@@ -188,7 +189,7 @@ impl PassedReply {
         }))
     }
 
-    /// The same for moves to each of some squares.
+    /// `attacker_path` of all moves from `from` to `ends`; `None` if one has none.
     fn attacker_paths(&self, piece: Piece, from: Square, ends: Squares) -> Option<Squares>
         requires stands { piece_at self.now.board from ≡ Some piece }
         ensures { IfSome result (λ paths. ExposeOwnKingIn self.now from ends.bits paths.bits) }
@@ -201,8 +202,8 @@ impl PassedReply {
         Some(kept_empty)
     }
 
-    /// Whether what stands on `a` has to stay in the way of the piece of its side that slides from the other
-    /// square: with it lifted, that reaches forbidden squares anew.
+    /// Whether our piece on `a` has to block our slider on `from`, which would make a threat on
+    /// squares beyond.
     fn blocks(
         &self,
         piece: Piece,
@@ -233,7 +234,7 @@ impl PassedReply {
         !sets.among(piece, from, ends).is_empty()
     }
 
-    /// The pieces that have to stay in the way of the piece of their side that slides from the square.
+    /// Our pieces that have to block our slider on `from`.
     fn blockers(
         &self,
         piece: Piece,
@@ -256,9 +257,9 @@ impl PassedReply {
         })
     }
 
-    /// Where all moves on the board of what stands on the square gain little and leave one of the
-    /// squares, or leave its own king attacked: what has to stay for that. One is left that is on no line
-    /// with the square: those may be attacked once it is left.
+    /// What must not change so that no move of the piece on `from` is a threat, unless it exposes
+    /// our own king; `None` if a move is one. Only reply squares off the lines through `from`
+    /// count, since leaving `from` may open an attack on the others.
     fn relied_on_for_piece(&self, from: Square) -> Option<ReliedOn>
         ensures no_threat { IfSome result (λ relied.
             PieceHasNoThreatIn self.now relied.empty.bits from) }
@@ -289,7 +290,7 @@ impl PassedReply {
         })
     }
 
-    /// The same of all pieces of the side to move.
+    /// What must not change so that no board move of ours is a threat.
     fn relied_on_for_pieces(&self) -> Option<ReliedOn>
         ensures no_threat { IfSome result (λ relied.
             PiecesHaveNoThreatIn self.now relied.empty.bits) }
@@ -310,8 +311,8 @@ impl PassedReply {
         })
     }
 
-    /// Where a drop of the kind, if a piece of it is in hand, leaves one of the squares wherever it ends:
-    /// squares on which it would not.
+    /// The occupied squares on which a drop of the kind would cover every reply square, if they
+    /// became empty. `None` if it does so on an empty square; none if no such piece is in hand.
     fn relied_on_for_kind(&self, kind: Kind) -> Option<Squares>
         ensures no_threat { IfSome result (λ relied. DropsAreNoThreatIn self.now kind) }
         ensures relied { IfSome result (λ relied. DropsGetNoThreatsIn self.now kind relied.bits) }
@@ -333,7 +334,7 @@ impl PassedReply {
         Some(covered)
     }
 
-    /// The same of all kinds.
+    /// `relied_on_for_kind` of all kinds together.
     fn relied_on_for_kinds(&self) -> Option<Squares>
         ensures no_threat { IfSome result (λ relied. (kind : Kind)
             → DropsAreNoThreatIn self.now kind) }
@@ -350,7 +351,8 @@ impl PassedReply {
         Some(pawn | lance | knight | silver | gold | bishop | rook)
     }
 
-    /// The squares on open lines with the king or one of its squares.
+    /// The squares on open lines with the enemy king or a reply square: a piece of ours that leaves
+    /// one could open an attack.
     fn open_lines(&self) -> Squares
         ensures { CoversOpenLinesIn self.now result.bits }
     {
@@ -360,8 +362,8 @@ impl PassedReply {
         seen | self.kingless.open_lines(self.king)
     }
 
-    /// Where the side to move gains little and leaves one of the squares, whatever it does: squares such
-    /// that so it is too with any piece of its own lifted from another square.
+    /// What must not change so that we have no threat, even after one of our pieces outside the
+    /// result has left its square; `None` if we have a threat.
     pub fn relied_on(&self) -> Option<ReliedOn>
         ensures no_threats { IfSome result (λ relied. HasNoThreatsIn self.now relied.empty.bits) }
         ensures relied { IfSome result (λ relied.
@@ -376,8 +378,8 @@ impl PassedReply {
         })
     }
 
-    /// Whether the piece on the square reaches neither the king nor its squares, and by its next move
-    /// gains little and leaves one of them.
+    /// Whether the piece on `to` attacks neither the enemy king nor a reply square, and no next
+    /// move of it is a threat.
     fn is_unthreatening(&self, piece: Piece, forbidden: &ForbiddenSquares, to: Square) -> bool
         requires allowed { AllowsIn self.now piece self.now.squares.bits forbidden.now }
         ensures { result ≡ true → IsUnthreateningIn self.now (Some piece) to }
@@ -390,7 +392,7 @@ impl PassedReply {
         forbidden.among(piece, to, targets).is_empty()
     }
 
-    /// Those of the squares on which the piece is so.
+    /// The `squares` on which the piece makes no threat.
     pub fn unthreatening_squares(&self, piece: Piece, squares: Squares) -> Squares
         ensures among { (n : ℕ) → has_bit result.bits n ≡ true → has_bit squares.bits n ≡ true }
         ensures unthreatening { AreUnthreateningIn self.now (Some piece) result.bits }
@@ -402,7 +404,8 @@ impl PassedReply {
         squares.sift(|to| self.is_unthreatening(piece, &forbidden, to))
     }
 
-    /// Those on which a piece of the kind is so, if one is in hand, and else all of them.
+    /// The `squares` on which a dropped piece of the kind makes no threat; all of them if none is
+    /// in hand.
     pub fn unthreatening_drops(&self, kind: Kind, squares: Squares) -> Squares
         ensures among { (n : ℕ) → has_bit result.bits n ≡ true → has_bit squares.bits n ≡ true }
         ensures unthreatening { AreUnthreateningDropsIn self.now kind result.bits }
@@ -417,7 +420,7 @@ impl PassedReply {
         }
     }
 
-    /// The same with what stands on the square lifted.
+    /// The position without the piece on `from`.
     fn lifted(&self, from: Square) -> PassedReply
         requires king_replies { KingHasRepliesLifted self.now from }
         ensures board { place_in result ≡ lifted (place_in self.now) from }
@@ -435,7 +438,7 @@ impl PassedReply {
         }
     }
 
-    /// The ends without those of the targets on which the piece from the square is not idle.
+    /// `ends` without those of `targets` on which the piece from `from` makes a threat.
     fn unthreatening_ends_of(&self, from: Square, targets: Squares, ends: Squares) -> Squares
         requires king_replies { KingHasRepliesLifted self.now from }
         ensures among { (n : ℕ) → has_bit result.bits n ≡ true → has_bit ends.bits n ≡ true }
@@ -454,8 +457,8 @@ impl PassedReply {
         }
     }
 
-    /// The squares to which none of the pieces moves, of those of the position before, or on which it is
-    /// idle.
+    /// The `ends` on which each of `pieces` that could move there in `before` makes no threat. One
+    /// set serves all pieces: a set for each would save little.
     pub fn unthreatening_ends(&self, before: &Position, pieces: Squares, ends: Squares) -> Squares
         requires king_replies { KingHasRepliesEachLifted self.now pieces.bits }
         ensures among { (n : ℕ) → has_bit result.bits n ≡ true → has_bit ends.bits n ≡ true }

@@ -1,4 +1,4 @@
-//! Squares of which one that is not attacked leaves a side a reply.
+//! Squares that leave the opponent a legal reply while one of them is not attacked.
 
 ghost use Rattle.std.specs.Prelude.{◌≡◌, true, IfSome};
 ghost use Rattle.shogi_core.specs.Cell.{HasNoOtherKing, is_king};
@@ -18,7 +18,7 @@ pub struct FreeStep {
     pub to: Square,
 }
 
-/// A step of one of the pieces to an empty square that is not among those taken.
+/// A step of one of `pieces` to an empty square outside `taken`; `None` if there is none.
 fn free_step(p: &Position, pieces: Squares, taken: Squares) -> Option<FreeStep>
     ensures { IfSome result (IsFreeStep p.now.cells pieces.bits taken.bits) }
 {
@@ -33,8 +33,9 @@ fn free_step(p: &Position, pieces: Squares, taken: Squares) -> Option<FreeStep>
     None
 }
 
-/// Whether the side that is not to move surely has a step of a piece on no line with its king, whatever
-/// one square is filled, and wherever a move ends: three pieces have one, each to another square.
+/// Whether the opponent keeps a quiet step after any two moves of ours: three of its pieces, on no
+/// line with its king and so never pinned, step to three different squares. Each move spoils at
+/// most one step.
 fn has_spare_moves(p: &Position, king: Square) -> bool
     ensures { result ≡ true → HasSpareMoves p.now king }
 {
@@ -51,8 +52,8 @@ fn has_spare_moves(p: &Position, king: Square) -> bool
     free_step(p, others.except(two.from), taken.with(two.to)).is_some()
 }
 
-/// The squares to which the king may go, only empty ones if replies have to be quiet, and its own if its
-/// side has spare moves.
+/// The flight squares of the enemy king, only empty ones if `quiet_only`, and its own square if its
+/// side has spare moves, which answer every move that gives no check.
 pub fn reply_squares(p: &Position, king: Square, quiet_only: bool) -> Squares
     requires crown { is_king (opponent_of p.now.side) (piece_at p.now.cells king) ≡ true }
     requires only_king { HasNoOtherKing p.now.cells (opponent_of p.now.side) king }
