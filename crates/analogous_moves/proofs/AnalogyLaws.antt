@@ -66,7 +66,7 @@ held_before q kind b held other some = elim (cases_eq (place_of q.side other) (p
   | inr off ↦ subst (λ (n : ℕ). 0 < n) (get_or-set_other q.hands (place_of q.side kind) (place_of q.side other) (count_in_hand q.hands q.side kind - 1) 0 off) some
 ]
 
--- a piece that does not attack the king on the board without it gives no check, after a pass and the reply
+-- after a pass and the reply, a piece gives no check if it does not attack the king on the board without it
 harmless_after : (p : Shogi) (r : Move) (king : ℕ) (cells : Cells) (cell : Option Piece) (b : ℕ) → length cells ≡ 81 → king < 81 → HasNoOtherKing (after_reply p r).cells (opponent_of (after_reply p r).side) king → ((x : ℕ) → is_none (piece_at (after_reply p r).cells x) ≡ true → is_none (piece_at cells x) ≡ true)
     → cell_reaches (set cells king None) cell b king ≡ false → IsHarmless (after_reply p r).cells (opponent_of p.side) cell b
 harmless_after p r king cells cell b len low only_king emptied far = subst (λ (color : Color). IsHarmless (after_reply p r).cells color cell b) (ap opponent_of (opponent_twice p.side)) (harmless_there (after_reply p r).cells (opponent_of (after_reply p r).side) king cells cell b len low only_king emptied far)
@@ -75,7 +75,7 @@ harmless_after p r king cells cell b len low only_king emptied far = subst (λ (
 abbrev AreSpared : Move → ℕ → ℕ → Type 0
 AreSpared r kept_empty set = (n : ℕ) → n < 81 → has_bit set n ≡ true → IsClearOf r n × (has_bit kept_empty n ≡ false)
 
--- a set without the squares of the reply and those kept empty is spared
+-- a set without the reply's squares and those kept empty is spared
 pub spared_among : (r : Move) (kept_empty touched both free among set : ℕ) → CoversMove r touched → both ≡ bit_or touched kept_empty → both < 2 ^ 81 → among ≡ bit_and free (2 ^ 128 - 1 - both) → ((n : ℕ) → has_bit set n ≡ true → has_bit among n ≡ true) → AreSpared r kept_empty set
 spared_among r kept_empty touched both free among set spared join fits meet within n h on =
     let out : has_bit both n ≡ false = (out_parts free both n fits h (sym (ap (λ (m : ℕ). has_bit m n) meet) ∙ within n on)).1 in

@@ -74,7 +74,7 @@ module _ (q : Cells) (side : Color) (cell : Option Piece) (a b : ℕ) (len : len
     ]
   ]
 
-  -- a piece gives no check by moving if no enemy king is on an open line with its old square and it attacks none from its new one
+  -- a piece gives no check by a move from a square on no open line with an enemy king to one from which it attacks none
   board_unchecked : is_lined_with_king q (opponent_of side) a ≡ false → IsHarmless q (opponent_of side) cell b → in_check q (opponent_of side) ≡ false → in_check moved (opponent_of side) ≡ false
   board_unchecked free far safe =
       unchecked_by q moved side (λ x. x ≡ a) b cell hb own (look q side a b cell len ha hb)
@@ -119,7 +119,7 @@ no_gain p e a b bare =
     ap (λ (cell : Option Piece). pos (taken_gain e cell + promotion_gain false (piece_at p.cells a))) bare
     ∙ ap (λ (n : ℕ). pos (0 + n)) (no_promotion (piece_at p.cells a))
 
--- the material after the move and the reply is that after a pass and the reply
+-- move and reply leave the material that a pass and the reply leave
 pub material_board : (p : Shogi) (e : Eval) (a b : ℕ) (r : Move) → IsValid p → in_check p.cells p.side ≡ false → a < 81 → b < 81 → IsOnSquares r → is_legal p (Board a b false) ≡ true → piece_at p.cells b ≡ None → is_legal (passed p) r ≡ true → IsOff r a → IsOff r b → is_legal (after p (Board a b false)) r ≡ true
     → material_of (after (after p (Board a b false)) r) e ≡ material_of (after_reply p r) e
 material_board p e a b r v unchecked ha hb there lm bare lr off apart l =
@@ -129,7 +129,7 @@ material_board p e a b r v unchecked ha hb there lm bare lr off apart l =
 
 -- ---- what the move is worth
 
--- a quiet move is worth at most `t` if the position after a pass and the reply, with the piece moved, is; that position may be taken as valid, with unchanged material
+-- a quiet move is worth at most `t` if the position after a pass and the reply, with the piece moved, is, given that it is valid and its material unchanged
 pub quiet_analogous : (quiet_only : Bool) (p : Shogi) (e : Eval) (depth a b : ℕ) (r : Move) (t : ℤ) → ReplySuffices quiet_only e depth → IsValid p → in_check p.cells p.side ≡ false → a < 81 → b < 81 → IsOnSquares r → is_legal p (Board a b false) ≡ true → piece_at p.cells b ≡ None → is_legal (passed p) r ≡ true → is_pawn_drop r ≡ false → IsOff r a → IsClearOf r b
     → is_lined_with_king (after_reply p r).cells (opponent_of p.side) a ≡ false → IsHarmless (after_reply p r).cells (opponent_of p.side) (piece_at p.cells a) b
     → (IsValid (placed (lifted (after_reply p r) a) (piece_at p.cells a) b) → material_of (placed (lifted (after_reply p r) a) (piece_at p.cells a) b) e ≡ material_of (after_reply p r) e → AreAtMost (placed (lifted (after_reply p r) a) (piece_at p.cells a) b) e depth t)

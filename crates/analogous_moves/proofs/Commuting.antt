@@ -110,6 +110,6 @@ commute_of cells hands White kind b r h =
     ap (λ (c : Cells). position c (hands_after (hands_after hands cells White (Drop kind b)) (cells_after cells White (Drop kind b)) Black r) White) (cells_commute cells White Black kind b r h)
     ∙ ap (λ (held : HandCounts). position (cells_after (cells_after cells Black r) White (Drop kind b)) held White) (hands_commute hands cells White kind b r h)
 
--- a drop and then a reply leave the same board and hands as a pass, the reply and then the drop; only the side to move differs
+-- a drop and then a reply leave what a pass, the reply and the drop leave, but for the side to move
 pub commute : (p : Shogi) (kind : Kind) (b : ℕ) (r : Move) → IsOff r b → after (after p (Drop kind b)) r ≡ passed (after (after_reply p r) (Drop kind b))
 commute p kind b r h = commute_of p.cells p.hands p.side kind b r h

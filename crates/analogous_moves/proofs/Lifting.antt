@@ -245,7 +245,7 @@ module _ (quiet_only : Bool) (q : Shogi) (e : Eval) (gains king squares kept_emp
         ]
       ]
 
-  -- its side has no threat with the piece lifted
+  -- its side still has no threat
   pub lift_no_threats : ((from : ℕ) → from < 81 → is_piece_of q.side (piece_at q.cells from) ≡ true → PieceGetsNoThreat quiet_only q e gains king squares from a) → ((kind : Kind) → 0 < count_in_hand q.hands q.side kind → DropGetsNoThreat quiet_only q king squares kind a) → HasNoThreats quiet_only (lifted q a) e gains king squares kept_empty
   lift_no_threats pieces kinds = record {
     king_replies = record {

@@ -55,7 +55,7 @@ no_piece color (Some piece) mine theirs = absurd (both_ways (is_same_color (oppo
     either White Black e = refl
     either White White e = absurd (cc)
 
--- the enemy pieces sifted by what their capture gains are the captures above the bound
+-- enemy pieces sifted by their capture's gain are the captures above the bound
 pub captures_above_sifted : (cells : Cells) (side : Color) (e : Eval) (most foes kept : ℕ) (post : ℕ → Bool → Type 0) → ((n : ℕ) → n < 81 → has_bit foes n ≡ is_piece_of (opponent_of side) (piece_at cells n)) → ((n : ℕ) (passes : Bool) → n < 81 → post n passes → passes ≡ nat_lt most (taken_gain e (piece_at cells n))) → IsSifted post foes kept
     → AreCapturesAbove cells side e most kept
 captures_above_sifted cells side e most foes kept post bits says s n h free out = elim (cases_Bool (has_bit foes n)) [
@@ -66,7 +66,7 @@ captures_above_sifted cells side e most foes kept post bits says s n h free out 
       omega (arith, nothing))
 ]
 
--- a square that is emptied is no capture above the bound
+-- an emptied square is no capture above the bound
 pub captures_above_lifted : (cells : Cells) (side : Color) (e : Eval) (most captures a : ℕ) → AreCapturesAbove cells side e most captures → AreCapturesAbove (set cells a None) side e most captures
 captures_above_lifted cells side e most captures a d n h free out = elim (cases_eq n a) [
   | inl at ↦ (
@@ -197,11 +197,11 @@ module _ (quiet_only : Bool) (q : Shogi) (e : Eval) (gains king : ℕ) (kingless
       (ap (λ (x : Option Piece). cell_reaches (without_king (lifted_from q a) king) x from n) (sym is) ∙ reached) in
       (fresh was, subst (λ (x : ℕ). has_bit targets x ≡ true) (fresh was) (led n h was))
 
-  -- a slider has no new threat if a piece leaves that it does not attack
+  -- a slider gets no threat if a piece leaves that it does not attack
   pub slider_lets : from < 81 → (a : ℕ) → a < 81 → has_bit targets a ≡ false → PieceGetsNoThreat quiet_only q e gains king squares from a
   slider_lets hf a ha out = record { no_threat = λ n promote h free reached fresh lets. absurd (both_ways (has_bit targets a) out (led_anew a n hf ha h (inr out) reached fresh).1) }
 
-  -- a stepping piece has no new threat if the square that is left is not forbidden
+  -- a stepping piece gets no threat on a square that is not forbidden
   pub stepper_lets : from < 81 → is_sliding_role piece.role ≡ false → (a : ℕ) → a < 81 → has_bit found a ≡ false → PieceGetsNoThreat quiet_only q e gains king squares from a
   stepper_lets hf still a ha out = record {
     no_threat = λ n promote h free reached fresh lets. (
@@ -212,7 +212,7 @@ module _ (quiet_only : Bool) (q : Shogi) (e : Eval) (gains king : ℕ) (kingless
         (omega (arith, none, few), no_threat.1));
   }
 
--- a slider has no new threat if a blocker leaves and none of its new targets is forbidden
+-- a slider gets no threat if a blocker leaves and no new target is forbidden
 module _ (quiet_only : Bool) (q : Shogi) (e : Eval) (gains king : ℕ) (kingless : Cells) (piece : Piece) (from a targets opened own both others ends clear squares found : ℕ) (forbidden : ForbiddenSquares) (lifted : kingless ≡ without_king q king) (is : piece_at q.cells from ≡ Some piece) (reach : (n : ℕ) → n < 81 → has_bit targets n ≡ cell_reaches kingless (Some piece) from n)
     (wide : (n : ℕ) → n < 81 → has_bit opened n ≡ cell_reaches (set kingless a None) (Some piece) from n) (owned : (n : ℕ) → n < 81 → has_bit own n ≡ is_piece_of q.side (piece_at q.cells n)) (joins : both ≡ bit_or own targets) (spares : (i : ℕ) → has_bit others i ≡ (has_bit both i && not (i == a))) (others_fit : others < 2 ^ 81) (rest : ends ≡ bit_and opened (2 ^ 128 - 1 - others))
     (off_lines : AreOffLines from squares clear) (allows : Allows quiet_only q e gains king piece clear forbidden) (these : AreForbidden piece from ends forbidden found) (nothing : found ≡ 0) (off : king ≢ a) where
@@ -275,7 +275,7 @@ each_kind fact pawn lance knight silver gold bishop rook kinds.Gold = gold
 each_kind fact pawn lance knight silver gold bishop rook kinds.Bishop = bishop
 each_kind fact pawn lance knight silver gold bishop rook kinds.Rook = rook
 
--- a piece that attacks no reply square and has no forbidden target makes no threat
+-- a piece makes no threat if it attacks no reply square and has no forbidden target
 pub unthreatening_there : (quiet_only : Bool) (q : Shogi) (e : Eval) (gains king : ℕ) (kingless : Cells) (piece : Piece) (to reach squares closed own rest found : ℕ) (forbidden : ForbiddenSquares) → kingless ≡ without_king q king → king < 81 → ((n : ℕ) → n < 81 → has_bit reach n ≡ cell_reaches kingless (Some piece) to n)
     → has_bit squares to ≡ false → ((i : ℕ) → has_bit closed i ≡ (has_bit squares i || i == king)) → bit_and reach closed ≡ 0 → ((n : ℕ) → n < 81 → has_bit own n ≡ is_piece_of q.side (piece_at q.cells n)) → own < 2 ^ 81 → rest ≡ bit_and reach (2 ^ 128 - 1 - own)
     → Allows quiet_only q e gains king piece squares forbidden → AreForbidden piece to rest forbidden found → found ≡ 0 → IsUnthreatening quiet_only q e gains king squares (Some piece) to
@@ -304,7 +304,7 @@ unthreatening_there quiet_only q e gains king kingless piece to reach squares cl
 
 -- ---- more squares are kept empty
 
--- a piece without threats has none if more squares are kept empty
+-- a piece has no threats either if more squares are kept empty
 no_threat_more : (quiet_only : Bool) (q : Shogi) (e : Eval) (gains king squares kept_empty more from : ℕ) → ((x : ℕ) → has_bit more x ≡ false → has_bit kept_empty x ≡ false) → PieceHasNoThreat quiet_only q e gains king squares kept_empty from → PieceHasNoThreat quiet_only q e gains king squares more from
 no_threat_more quiet_only q e gains king squares kept_empty more from within no_threat n promote h free reached lets = elim (no_threat n promote h free reached lets) [ inl little ↦ inl little | inr stopped ↦ inr (exposes_more q kept_empty more from n within stopped) ]
 

@@ -12,7 +12,7 @@ use Rattle.shogi_eval.specs.declared.eval.Eval.{Eval}
 use Rattle.shogi_eval.specs.Material.{points_of, material_of}
 use Rattle.analogous_moves.specs.Analogies.{passed}
 
--- a side that is not in check may pass: the position stays valid
+-- a pass out of check leaves a valid position
 pub passed_valid : (p : Shogi) → IsValid p → in_check p.cells p.side ≡ false → IsValid (passed p)
 passed_valid p v unchecked =
     let fine = faultless_from p v.no_fault in
@@ -32,7 +32,7 @@ points_passed : (p : Shogi) (e : Eval) (color : Color) → points_of (passed p) 
 unfolding points_of
 points_passed p e color = refl
 
--- after a pass, the material is the negated one
+-- a pass negates the material
 pub material_passed : (p : Shogi) (e : Eval) → material_of (passed p) e ≡ pos 0 -ℤ material_of p e
 unfolding material_of
 material_passed p e =

@@ -58,19 +58,19 @@ one_more among left next square old new all bits up here n h e out = elim (cases
   | inr other ↦ up n (all n h e (false_from_ne_true (has_bit left n) (λ still. both_ways (has_bit next n) out (bits n ∙ and_from _ _ still (not_from_false _ (ne_eqb n square other))))))
 ]
 
--- if a call ensures a fact when it answers yes, each square that is kept has it
+-- a fact that a call ensures when it answers yes holds of each square kept
 pub sifted_fact : (post : ℕ → Bool → Type 0) (squares kept : ℕ) (fact : ℕ → Type 0) → IsSifted post squares kept → ((n : ℕ) → post n true → fact n) → (n : ℕ) → n < 81 → has_bit kept n ≡ true → fact n
 sifted_fact post squares kept fact s says n h set = elim (cases_Bool (has_bit squares n)) [
   | inl on ↦ (let tried = s.tried n h on in says n (subst (post n) (sym tried.2 ∙ set) tried.1))
   | inr off ↦ absurd (both_ways (has_bit kept n) (s.out n h off) set)
 ]
 
--- if a call ensures a fact when it answers no, each square that is dropped has it
+-- a fact that a call ensures when it answers no holds of each square dropped
 pub sifted_rest : (post : ℕ → Bool → Type 0) (squares kept : ℕ) (fact : ℕ → Type 0) → IsSifted post squares kept → ((n : ℕ) → post n false → fact n) → (n : ℕ) → n < 81 → has_bit squares n ≡ true → has_bit kept n ≡ false → fact n
 sifted_rest post squares kept fact s says n h on out =
     let tried = s.tried n h on in
     says n (subst (post n) (sym tried.2 ∙ out) tried.1)
 
--- squares that are kept are among the given ones
+-- squares kept are among the given ones
 pub sifted_among : (post : ℕ → Bool → Type 0) (squares kept : ℕ) → kept < 2 ^ 81 → IsSifted post squares kept → (n : ℕ) → has_bit kept n ≡ true → has_bit squares n ≡ true
 sifted_among post squares kept fits s n set = true_from_ne_false (has_bit squares n) (λ off. both_ways (has_bit kept n) (elim (cases_lt n 81) [ inl h ↦ s.out n h off | inr above ↦ has_bit-above kept 81 n fits above ]) set)

@@ -1,4 +1,4 @@
--- A reply that is legal after a pass is legal after a drop that is clear of it and gives no check.
+-- A reply legal after a pass is legal after a drop that is clear of it and gives no check.
 use Rattle.std.proofs.Common.{◌≡◌, ◌≢◌, ℕ, ◌/◌, ◌<◌, ◌≤◌, Bool, true, false, not, Option, Some, None, refl, sym, ap, subst, ◌∙◌, arith, inl, inr, set, length, length-set, get_or-set_same}
 use Rattle.std.specs.Prelude.{◌&&◌, ◌||◌, nat_lt, is_none}
 use Rattle.std.proofs.lemmas.Bool.{and_cases, and_from, and_left, and_parts, and_right, both_ways, false_from_ne_true, le-ltb, ltb-false, not-true, not_from_false}

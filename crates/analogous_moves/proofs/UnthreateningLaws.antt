@@ -47,7 +47,7 @@ use Rattle.analogous_moves.proofs.Worth.{HasBoardMove, IsBoundedAndAnswered}
 abbrev pub put_on : Shogi → Option Piece → HandCounts → ℕ → Shogi
 put_on q arrived hands b = record { cells = set q.cells b arrived; hands = hands; side = q.side }
 
--- the parts of a pseudo-legal board move
+-- parts of a pseudo-legal board move
 pub board_parts : (q : Shogi) (c d : ℕ) (promote : Bool) → is_legal q (Board c d promote) ≡ true → (is_piece_of q.side (piece_at q.cells c) ≡ true) × (is_piece_of q.side (piece_at q.cells d) ≡ false) × (reaches q.cells c d ≡ true) × ((not promote || may_promote (piece_at q.cells c) c d) ≡ true)
 board_parts q c d promote l =
     let parts = legal_parts q (Board c d promote) l in
@@ -57,7 +57,7 @@ board_parts q c d promote l =
     let one = and_parts (is_piece_of q.side (piece_at q.cells c)) (not (is_piece_of q.side (piece_at q.cells d))) two.0 in
     (one.0, not-true _ one.1, two.1, three.1)
 
--- the parts of a pseudo-legal drop
+-- parts of a pseudo-legal drop
 pub drop_parts : (q : Shogi) (kind : Kind) (d : ℕ) → is_legal q (Drop kind d) ≡ true → (nat_lt 0 (count_in_hand q.hands q.side kind) ≡ true) × (is_none (piece_at q.cells d) ≡ true) × (is_immobile d (dropped q.side kind) ≡ false)
 drop_parts q kind d l =
     let parts = legal_parts q (Drop kind d) l in
@@ -74,7 +74,7 @@ pub none_is : (cell : Option Piece) → is_none cell ≡ true → cell ≡ None
 none_is None e = refl
 none_is (Some piece) e = absurd (cc)
 
--- a legal position lets no move capture a king
+-- no move captures a king
 takes_no_king : (q : Shogi) (c k : ℕ) → IsValid q → c < 81 → k < 81 → is_king (opponent_of q.side) (piece_at q.cells k) ≡ true → is_piece_of q.side (piece_at q.cells c) ≡ true → reaches q.cells c k ≡ false
 unfolding in_check
 takes_no_king q c k v hc hk crown own =

@@ -1,11 +1,10 @@
-//! Moves three or four plies before the end that a known refutation also refutes, found on squares
-//! without searching them: the method of analogies.
+//! The method of analogies: moves three or four plies before the end that a known refutation also
+//! refutes, found on squares without searching them.
 //!
-//! We are the side to move at a node, and the opponent makes the reply. After a move of ours has
-//! failed low to a reply, `AnalogousMoves::of` asks what we could do if we had passed and the
-//! opponent had made that reply. A threat is a move of ours from there that gains more than the bound
-//! allows, or leaves the opponent no reply. If we have none, the reply also refutes every drop and
-//! quiet move that changes nothing this rests on.
+//! After a move of ours has failed low to a reply, `AnalogousMoves::of` asks what we could do if we
+//! had passed and the opponent had made that reply. A threat is a move of ours from there that gains
+//! more than the bound allows, or leaves the opponent no reply. If we have none, the reply also
+//! refutes each drop and quiet move that changes nothing this rests on.
 #![tactic(auto)]
 
 mod moves;
