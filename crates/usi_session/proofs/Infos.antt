@@ -14,7 +14,7 @@ pub info_lines-start : (p : Shogi) (eval : Eval) (multi_pv : ℕ) → info_lines
 unfolding info_lines
 info_lines-start p eval multi_pv = refl
 
--- one depth more
+-- the info lines of one more depth
 pub info_lines-more : (p : Shogi) (eval : Eval) (multi_pv done : ℕ) → info_lines p eval multi_pv (done + 1) ≡ info_lines p eval multi_pv done ++ depth_lines p eval multi_pv (done + 1)
 unfolding info_lines
 info_lines-more p eval multi_pv done = rw add-one refl
@@ -23,7 +23,7 @@ info_lines-more p eval multi_pv done = rw add-one refl
 pub not_empty : (xs rest : List ℕ) (x : ℕ) → xs ≡ x ∷ rest → xs ≢ []
 not_empty xs rest x e = λ h. cc
 
--- where no move is legal nothing is said
+-- if no move is legal, nothing is said
 pub go_infos-none : (p : Shogi) (eval : Eval) (multi_pv depth : ℕ) → legal_codes p ≡ [] → go_infos p eval multi_pv depth ≡ []
 go_infos-none p eval multi_pv depth e = ap (go_infos_where p eval multi_pv depth) e
 
@@ -31,7 +31,7 @@ go_infos_where-some : (p : Shogi) (eval : Eval) (multi_pv depth : ℕ) (codes : 
 go_infos_where-some p eval multi_pv depth [] h = absurd (h refl)
 go_infos_where-some p eval multi_pv depth (code ∷ codes) h = refl
 
--- where a move is legal each depth is said
+-- if a move is legal, each depth is said
 pub go_infos-some : (p : Shogi) (eval : Eval) (multi_pv depth : ℕ) → legal_codes p ≢ [] → go_infos p eval multi_pv depth ≡ info_lines p eval multi_pv depth
 go_infos-some p eval multi_pv depth h = go_infos_where-some p eval multi_pv depth (legal_codes p) h
 
@@ -39,6 +39,6 @@ none_is : (o : Option Move) → is_some o ≡ false → o ≡ None
 none_is None e = refl
 none_is (Some m) e = absurd (cc)
 
--- where no move is legal the pv is empty
+-- if no move is legal, the pv is empty
 pub pv-empty : (p : Shogi) (eval : Eval) (depth : ℕ) → 0 < depth → legal_codes p ≡ [] → pv p eval depth ≡ []
 pv-empty p eval depth h e = pv-none p eval depth h (none_is (best p eval depth) ((none_iff p eval depth (best p eval depth) refl).1 (inr e)))

@@ -1,4 +1,4 @@
--- Searches that a memory has the answers for.
+-- Searches whose values a memo already has.
 use Rattle.std.proofs.Common.{◌≡◌, ◌∙◌, ◌<◌, ◌+◌, ◌-◌, ◌==◌, ℕ, ℤ, Bool, true, false, List, [], ◌∷◌, ◌++◌, cond, Option, Some, None, refl, sym, ap, subst, arith}
 use Rattle.std.specs.Prelude.{IfSome, IsSome}
 use Rattle.shogi_core.specs.Position.{Shogi}
@@ -29,7 +29,7 @@ use Rattle.usi_session.specs.WholeStream.{answer_to, answer_unless}
 use Rattle.usi_session.proofs.RootLaws.{pv_roots-above}
 use Rattle.usi_session.proofs.Steps.{rest_reported-state, roots-alive}
 
--- a search that a depth begins with has not begun
+-- the first search of a depth has not begun
 first_of : (one : Bool) (p q : Shogi) (e : Eval) (n m : ℕ)
     → (cond one (untouched p e n) (untouched q e m)).started ≡ false
 first_of true p q e n m = refl
@@ -40,14 +40,14 @@ pub first_fresh : (q : GoRequest) (first : Move) (depths_done : ℕ)
 first_fresh q first depths_done =
     first_of (q.multi_pv == 1) q.position (after q.position first) q.eval (depths_done + 1) depths_done
 
--- the value itself is enough
+-- an exact value is enough below any bound
 enough_exactly : (beta : ℤ) (answer : Option Entry) → IsExactly answer → IsEnoughBelow beta answer
 enough_exactly beta None known = absurd known
 enough_exactly beta (Some (Exact v m)) known = tt
 enough_exactly beta (Some (AtLeast v)) known = absurd known
 enough_exactly beta (Some (AtMost v)) known = absurd known
 
--- of what is known, what is left is known
+-- the later ones of known roots are known
 pub known_behind : (answers : Shogi → Eval → ℕ → Option Entry) (xs ys : List Root)
     → AreKnown answers (xs ++ ys) → AreKnown answers ys
 known_behind answers [] ys all = all
@@ -57,7 +57,7 @@ pub known_as : (answers : Shogi → Eval → ℕ → Option Entry) (xs ys : List
     → xs ≡ ys → AreKnown answers xs → AreKnown answers ys
 known_as answers xs ys e all = subst (AreKnown answers) e all
 
--- and it is known to a memory that answers the same
+-- roots are known to a memo with equal answers
 pub known_later : (before after : Shogi → Eval → ℕ → Option Entry)
     → ((q : Shogi) (f : Eval) (n : ℕ) → after q f n ≡ before q f n) → (xs : List Root)
     → AreKnown before xs → AreKnown after xs
@@ -67,7 +67,7 @@ known_later before after same (x ∷ xs) all = (
   known_later before after same xs all.1,
 )
 
--- the root where a walk stands is the first
+-- the root at the walk's position is the first
 pub known_here : (answers : Shogi → Eval → ℕ → Option Entry) (q : GoRequest) (depths_done lines_done : ℕ) (walk : Walked) (search : Progress)
     → walk.eval ≡ q.eval → 0 < walk.plies
     → AreKnown answers (roots_of (running_go_of q depths_done lines_done None walk search))
@@ -78,13 +78,13 @@ known_here answers q depths_done lines_done walk search e some all =
     known_as answers _ _ (ap (λ (l : List Root). (l ++ lines_roots q depths_done (lines_done + 1)) ++ deeper_roots q depths_done) roots) all in
     subst (λ (v : Eval). IsExactly (answers walk.at v walk.plies)) (sym e) first.0
 
--- so the search there is answered
+-- a search of the walk's position is answered by the memo
 pub answered_here : (answers : Shogi → Eval → ℕ → Option Entry) (walk : Walked) (search : Progress) (beta : ℤ)
     → IsUnder search walk.at walk.eval walk.plies beta → IsKnown answers (root_of walk.at walk.eval walk.plies)
     → IsExactlyAnsweredBy answers search
 answered_here answers walk search beta under known = rw (under.root, under.eval_is, under.depth_is) known
 
--- and the memory was asked for its root, and nothing else
+-- a search of a known root asks the memo once, and nothing else
 pub asked_here : {M : Type 0} (called : M → Call → M → Type 0) (answers : Shogi → Eval → ℕ → Option Entry) (a b : M)
     (search : Progress) → AsksRoot called answers a b search → IsExactlyAnsweredBy answers search → IsAsked called a b
 asked_here called answers a b search asks known = record {
@@ -99,7 +99,7 @@ asked_here called answers a b search asks known = record {
 pub no_steps : (made steps before new old : ℕ) → made ≡ steps - before → steps ≡ new → new ≡ old → before ≡ old → made ≡ 0
 no_steps made steps before new old e f g h = omega arith
 
--- a question leaves all known
+-- a question leaves all roots known
 pub answers_kept : {M : Type 0} (answers : M → Shogi → Eval → ℕ → Option Entry) (called : M → Call → M → Type 0) (a b : M)
     → KeepsAnswers answers called → IsAsked called a b
     → (q : Shogi) (f : Eval) (n : ℕ) → answers b q f n ≡ answers a q f n
@@ -117,7 +117,7 @@ one_line-rest : (s : State) (line : Line) (rest : List Line) → s.is_over ≡ f
 unfolding HasOneLine
 one_line-rest s line rest alive one = subst (λ (over : Bool). HasOneLine (answer_unless over s line).state rest) alive one.1
 
--- a bestmove that is written or held changes no option
+-- writing or holding a bestmove changes no option
 lines_kept : (s : State) (infos : List ℕ) (held : HeldBestmove) (until : Hold) → (write_or_hold s infos held until).state.options.multi_pv ≡ s.options.multi_pv
 lines_kept s infos held Nothing = refl
 lines_kept s infos held UntilStop = refl
@@ -130,7 +130,7 @@ new_go_between s (Some go) new one =
     let same = lines_kept s (infos_left go) (bestmove_to go.go_request go.go_request.depth) go.go_request.hold in
     (new.0 ∙ (sym same ∙ one), λ _. new.1)
 
--- a line was answered, or its `go` was started
+-- known searches stay known when a line is answered or its `go` started
 pub known_answered : (s next : State) (queued more : List ℕ) (input rest : Buffer) (idle go_task : Option GoTaskView) (line : Line)
     → s.is_over ≡ false → idle ≡ None → ((x : List ℕ) → ahead input x ≡ line ∷ ahead rest x) → QueuesAnswer s line next queued more go_task
     → roots_left (record { state = next; go_task = go_task; queued = more; input = rest }) ≡ roots_left (record { state = s; go_task = idle; queued = queued; input = input })
@@ -144,7 +144,7 @@ known_answered s next queued more input rest idle go_task line alive i first h r
       one_line = later;
     }
 
--- a line of a running `go` was reported
+-- known searches stay known when a line of a running `go` is reported
 pub known_reported : (s : State) (queued more : List ℕ) (input : Buffer) (go next : GoTaskView) (go_task : Option GoTaskView)
     → go_task ≡ Some go → next.go_request ≡ go.go_request → (is_searching next ≡ true → next.is_begun ≡ false)
     → roots_left (record { state = s; go_task = Some next; queued = more; input = input }) ≡ roots_left (record { state = s; go_task = go_task; queued = queued; input = input })
@@ -158,7 +158,7 @@ known_reported s queued more input go next go_task i q fresh roots = λ answers 
       one_line = subst (λ (t : State). HasOneLine t (ahead input [])) (sym (rest_reported-state s go next q)) one;
     }
 
--- a `go` ended
+-- known searches stay known when a `go` ends
 pub known_ended : (s next : State) (queued more : List ℕ) (input : Buffer) (go : GoTaskView) (go_task : Option GoTaskView)
     → go_task ≡ Some go → QueuesEnd go s next queued more
     → roots_left (record { state = next; go_task = None; queued = more; input = input }) ≡ roots_left (record { state = s; go_task = go_task; queued = queued; input = input })
@@ -171,7 +171,7 @@ known_ended s next queued more input go go_task i h roots = λ answers known.
       one_line = subst (λ (t : State). HasOneLine t (ahead input [])) (sym h.state_is) one;
     }
 
--- a search of it was passed
+-- known searches stay known when a search of a running `go` is passed
 pub known_passed : (before after : Shogi → Eval → ℕ → Option Entry) (s : State) (queued : List ℕ) (input : Buffer) (go next : GoTaskView) (go_task : Option GoTaskView)
     → go_task ≡ Some go → IsSameButForSearch go next → IsBetweenSearches next
     → ((q : Shogi) (f : Eval) (n : ℕ) → after q f n ≡ before q f n) → (ended : List Root)
@@ -187,7 +187,7 @@ known_passed before after s queued input go next go_task i e between same ended 
       one_line = subst (λ (t : State). HasOneLine t (ahead input [])) (sym still) one;
     }
 
--- what is known of a session is known of its running `go`
+-- known searches of a session are known searches of its running `go`
 pub known_running : (answers : Shogi → Eval → ℕ → Option Entry) (s : State) (queued : List ℕ) (input : Buffer) (go : GoTaskView) (go_task : Option GoTaskView)
     → s.is_over ≡ false → go_task ≡ Some go → IsAllKnown answers (record { state = s; go_task = go_task; queued = queued; input = input })
     → IsBetweenSearches go × AreKnown answers (roots_of go)

@@ -29,11 +29,11 @@ use Rattle.usi_session.specs.GoInfos.{listed, pv_by}
 use Rattle.usi_session.specs.GoTaskView.{listed_at}
 use Rattle.usi_session.specs.Walked.{Walked, IsFirst, IsRanked, IsRankedTo, IsLine}
 
--- what is left of a list begins with this one
+-- the rest of a list begins with the element at its place
 pub drop_at : (xs : List ℕ) (n x : ℕ) → slice_get xs n ≡ Some x → drop n xs ≡ x ∷ drop (n + 1) xs
 drop_at xs n x e = drop_more xs n x (slice_get_within xs n x e) ∙ ap (λ (y : ℕ). y ∷ drop (n + 1) xs) (get_or_from_slice_get xs n x x e)
 
--- the steps along the pv of a listed move, and along those behind it
+-- the steps along the pv of a listed move and along those behind it
 pub pvs_next : (p : Shogi) (eval : Eval) (d : ℕ) (xs : List ℕ) (n x : ℕ) → slice_get xs n ≡ Some x → pvs_cost p eval d (drop n xs) ≡ pv_cost (after_code p x) eval d + pvs_cost p eval d (drop (n + 1) xs)
 pvs_next p eval d xs n x e = ap (pvs_cost p eval d) (drop_at xs n x e) ∙ sum_by-cons (λ code. pv_cost (after_code p code) eval d) x (drop (n + 1) xs)
 
@@ -83,11 +83,11 @@ first_line_at p eval d (Some c) h ne e = record {
 pub first_line : (p : Shogi) (eval : Eval) (d : ℕ) → 0 < d → legal_codes p ≢ [] → IsFirstLine p eval d
 first_line p eval d h ne = first_line_at p eval d (best_code p eval d) h ne refl
 
--- it is listed
+-- the first line is listed
 pub first_listed : (p : Shogi) (eval : Eval) (n d : ℕ) (l : IsFirstLine p eval d) → 1 ≤ n → slice_get (listed p eval n d) 0 ≡ Some l.code
 first_listed p eval n d l h = take_first (ranked_codes p eval d) n l.code h l.first_is
 
--- one line
+-- with one line, one move is listed
 pub one_listed : (p : Shogi) (eval : Eval) (n d : ℕ) → n ≡ 1 → 0 < d → legal_codes p ≢ [] → length (listed p eval n d) ≡ 1
 one_listed p eval n d e h ne =
     ap (λ (k : ℕ). length (take k (ranked_codes p eval d))) e ∙ (let l : IsFirstLine p eval d = first_line p eval d h ne in take_one (ranked_codes p eval d) l.code l.first_is)
@@ -95,17 +95,17 @@ one_listed p eval n d e h ne =
 some_in : (xs : List ℕ) (c : ℕ) → is_in c xs ≡ true → xs ≢ []
 some_in xs c i e = both_ways _ (sym i ∙ ap (is_in c) e) refl
 
--- where there is a first move some move is legal
+-- if there is a first move, some move is legal
 pub first_some : (p : Shogi) (m : Move) → IsFirst p m → legal_codes p ≢ []
 first_some p m e n = let q : code_of m ∷ legal_above p (Some m) ≡ [] = sym e ∙ n in cc
 
--- where there is a root move some move is legal
+-- if there is a root move, some move is legal
 pub root_move_some : (go_request : GoRequest) (depths_done : ℕ) (m : Move) (r : Ranking) → IsRankedTo go_request depths_done m r → legal_codes go_request.position ≢ []
 root_move_some go_request depths_done m r h =
     some_in (legal_codes go_request.position) (code_of m)
     (legal_above_in go_request.position h.passed (code_of m) (ap (is_in (code_of m)) h.next ∙ first_in (code_of m) (legal_above go_request.position (Some m))))
 
--- the pairs are those of the listed moves
+-- the ranked moves and worths are those of the listed moves
 top_listed : (go_request : GoRequest) (depths_done : ℕ) (r : Ranking) → IsRanked go_request depths_done r → map coded r.pairs ≡ map (with_worth (worth go_request.position go_request.eval depths_done)) (listed_at go_request depths_done)
 top_listed go_request depths_done r h =
     let n : depths_done + 1 - 1 ≡ depths_done = omega arith in
@@ -116,7 +116,7 @@ pub ranked_length : (go_request : GoRequest) (depths_done : ℕ) (r : Ranking) �
 ranked_length go_request depths_done r h =
     sym (length-map r.pairs coded) ∙ ap length (top_listed go_request depths_done r h) ∙ length-map (listed_at go_request depths_done) (with_worth (worth go_request.position go_request.eval depths_done))
 
--- of a pair
+-- the ranked move and worth of a line
 pub record IsPair (go_request : GoRequest) (depths_done lines_done : ℕ) (m : Move) (v : ℤ) : Type 0 where
   pub listed_as : slice_get (listed_at go_request depths_done) lines_done ≡ Some (code_of m)
   pub value_is : v ≡ worth go_request.position go_request.eval depths_done (code_of m)
@@ -156,7 +156,7 @@ line_first go_request depths_done w l h ne =
       l.pv_is ∙ ap (pv_by go_request.position go_request.eval (depths_done + 1)) c ∙ sym f.pv_is,
     )
 
--- the current line is one of those listed
+-- the current line is within the list
 pub line_within : (go_request : GoRequest) (depths_done lines_done : ℕ) (w : Walked) → IsLine go_request depths_done lines_done w → lines_done < length (listed_at go_request depths_done)
 line_within go_request depths_done lines_done w l = slice_get_within (listed_at go_request depths_done) lines_done l.code l.listed_as
 

@@ -1,4 +1,4 @@
--- A running `go`, from one search or one line to the next.
+-- The step of a running `go` from one search or line to the next.
 use Rattle.std.proofs.Common.{◌≡◌, ◌≢◌, ◌<◌, ◌≤◌, ◌<ℤ◌, ◌≤ℤ◌, ℕ, zero, suc, ℤ, ◌+◌, ◌-◌, ◌*◌, ◌==◌, [], ◌∷◌, Bool, true, false, Option, Some, None, refl, sym, ap, subst, ◌∙◌, arith, drop, length}
 use Rattle.std.specs.Prelude.{cond, nat_lt}
 use Rattle.std.proofs.lemmas.Bool.{both_ways, eqb-true, ltb-false}
@@ -36,7 +36,7 @@ use Rattle.usi_session.specs.Walked.{Walked, walk_from, IsLine, IsQuestionInRang
 use Rattle.usi_session.proofs.Listed.{IsFirstLine, first_line, first_listed, first_some, one_listed}
 use Rattle.usi_session.proofs.RunningGoLaws.{cost_of_depths-more}
 
--- a search that was just started is not at its end
+-- a search that was just started has steps left
 pub under_start : (s : Progress) (p : Shogi) (eval : Eval) (d : ℕ) (beta : ℤ) → s ≡ untouched_below p eval d beta → IsUnder s p eval d beta
 under_start s p eval d beta e =
     let l : s.left ≡ 4 * tree_size p d = ap (λ (t : Progress). t.left) e in
@@ -55,11 +55,11 @@ none_done_at : (walk : Walked) (child : Child) (one : Bool) → lines_done_in (c
 none_done_at walk child true = refl
 none_done_at walk child false = refl
 
--- where a depth begins no line of it is done
+-- when a depth begins, no line of it is done
 pub first_none_done : (go_request : GoRequest) (first : Move) (depths_done : ℕ) → lines_done_in (first_phase go_request first depths_done) ≡ 0
 first_none_done go_request first depths_done = none_done_at _ _ (go_request.multi_pv == 1)
 
--- a pv that is whole
+-- the current line when its pv is whole
 pub record IsWholeLine (go_request : GoRequest) (depths_done : ℕ) (line : PvLine) (kept : HeldBestmove) : Type 0 where
   pub line_is : IsLine go_request depths_done (lines_done_of line.listed) line.walk
   pub listed_is : IsListed go_request depths_done line.listed
@@ -72,30 +72,30 @@ whole_line go_request depths_done (AtLine l) line kept search e h whole =
     let same : l ≡ line = cc in
     subst (λ (x : PvLine). IsWholeLine go_request depths_done x kept) same (record { line_is = h.line_is; listed_is = h.listed_is; kept_is = h.kept_is; plies_is = not_above l.walk.plies whole })
 
--- with several lines all moves are ranked
+-- with several lines, all moves are ranked
 pub listed_all : (go_request : GoRequest) (depths_done : ℕ) (listed : Option Listed) (all : Listed) → listed ≡ Some all → IsListed go_request depths_done listed → (go_request.multi_pv ≢ 1) × IsRanked go_request depths_done all.ranks
 listed_all go_request depths_done None all e h = absurd (cc)
 listed_all go_request depths_done (Some l) all e h =
     let same : l ≡ all = cc in
     subst (λ (x : Listed). (go_request.multi_pv ≢ 1) × IsRanked go_request depths_done x.ranks) same h
 
--- with one line nothing is listed
+-- with one line, there is no list
 pub listed_none : (go_request : GoRequest) (depths_done : ℕ) (listed : Option Listed) → listed ≡ None → IsListed go_request depths_done listed → go_request.multi_pv ≡ 1
 listed_none go_request depths_done None e h = h
 listed_none go_request depths_done (Some l) e h = absurd (cc)
 
--- what was ranked, as the laws of ranks say it, and back
+-- ranked moves in the form of the laws of ranks, and back
 pub gone : (go_request : GoRequest) (depths_done : ℕ) (passed : Option Move) (ranks : Ranking) → IsRankedUpTo go_request depths_done passed ranks → IsGoneThrough go_request.position (worth go_request.position go_request.eval depths_done) passed ranks
 gone go_request depths_done passed ranks h = record { seen = h.seen; whole = h.whole; top = h.top }
 
 pub ranked_up_to : (go_request : GoRequest) (depths_done : ℕ) (passed : Option Move) (ranks : Ranking) → IsGoneThrough go_request.position (worth go_request.position go_request.eval depths_done) passed ranks → ranks.lines ≡ go_request.multi_pv → IsRankedUpTo go_request depths_done passed ranks
 ranked_up_to go_request depths_done passed ranks g most = record { seen = g.seen; whole = g.whole; top = g.top; most = most }
 
--- before a move is ranked
+-- the ranks before any move
 abbrev no_ranks : GoRequest → Ranking
 no_ranks go_request = record { lines = go_request.multi_pv; pairs = [] }
 
--- where a depth begins
+-- the invariant when a depth begins
 begun_at : (go_request : GoRequest) (first : Move) (depths_done : ℕ) (kept : HeldBestmove) (one : Bool) → (go_request.multi_pv == 1) ≡ one → IsQuestionInRange go_request → IsFirst go_request.position first
     → IsAtPhase go_request depths_done (cond one (AtLine (record { walk = walk_from go_request.position go_request.eval (depths_done + 1); listed = None })) (AtMove (record { root_move = first; ranks = no_ranks go_request }))) kept (cond one (untouched go_request.position go_request.eval (depths_done + 1)) (untouched (after go_request.position first) go_request.eval depths_done))
 begun_at go_request first depths_done kept true e a f =
@@ -139,18 +139,18 @@ begun_cost_at go_request first depths_done above false e f b a =
     sum_of_tree_sizes-next go_request.position depths_done (code_of first) (after go_request.position first) (legal_codes go_request.position) (legal_above go_request.position (Some first)) (sym (after_code_of go_request.position first b)) f in
     rw k (omega arith)
 
--- a depth that begins costs it and the depths above it
+-- when a depth begins, its load is at most the cost of it and of the depths above
 pub begun_cost : (go_request : GoRequest) (first : Move) (depths_done : ℕ) → depths_done < go_request.depth → IsFirst go_request.position first → move_of (code_of first) ≡ Some first
     → load_of (go_at go_request depths_done (first_phase go_request first depths_done) (first_search go_request first depths_done)) ≤ cost_of_depths go_request depths_done (go_request.depth - depths_done)
 begun_cost go_request first depths_done h f b =
     rw (cost_of_depths-more go_request depths_done h) (begun_cost_at go_request first depths_done (cost_of_depths go_request (depths_done + 1) (go_request.depth - (depths_done + 1))) (go_request.multi_pv == 1) refl f b refl)
 
--- the bound of a child is one that a search may be given
+-- the bound of a child is a valid search bound
 pub child_window : (go_request : GoRequest) (depths_done : ℕ) (root_move : Move) (ranks : Ranking) → IsValid go_request.position → IsQuestionInRange go_request → depths_done < go_request.depth → IsRankedTo go_request depths_done root_move ranks → (negated INFINITY <ℤ child_beta ranks) × (child_beta ranks ≤ℤ INFINITY)
 child_window go_request depths_done root_move ranks ok a h r =
     gone_window go_request.position go_request.eval depths_done r.passed ranks ok (let d = a.depth_fits.most in omega arith) (gone go_request depths_done r.passed ranks r.ranked)
 
--- a move that is not settled is worth what the search after it finds
+-- unless it is settled, a move's worth is what the search of its child finds
 pub child_worth : (go_request : GoRequest) (depths_done code : ℕ) → is_settled go_request depths_done ≡ false → worth go_request.position go_request.eval depths_done code ≡ negated (value (after_code go_request.position code) go_request.eval depths_done)
 child_worth go_request zero code h = worth_plain go_request.position go_request.eval 0 code h
 child_worth go_request (suc d) code h = refl
@@ -159,12 +159,12 @@ pub child_legal : (go_request : GoRequest) (depths_done : ℕ) (root_move : Move
 child_legal go_request depths_done root_move ranks b r =
     listed_to_legal go_request.position root_move b (legal_above_in go_request.position r.passed (code_of root_move) (ap (is_in (code_of root_move)) r.next ∙ first_in (code_of root_move) (legal_above go_request.position (Some root_move))))
 
--- the root move was ranked, and the next one is searched
+-- a root move was ranked, and the child of the next is searched
 pub ranked_on : (go_request : GoRequest) (depths_done : ℕ) (root_move m : Move) (new : Ranking) → IsRankedUpTo go_request depths_done (Some root_move) new
     → legal_above go_request.position (Some root_move) ≡ code_of m ∷ legal_above go_request.position (Some m) → IsRankedTo go_request depths_done m new
 ranked_on go_request depths_done root_move m new h n = record { passed = Some root_move; next = n; ranked = h }
 
--- or it was the last one
+-- the last root move was ranked
 pub ranked_all : (go_request : GoRequest) (depths_done : ℕ) (root_move : Move) (new : Ranking) → IsRankedUpTo go_request depths_done (Some root_move) new → legal_above go_request.position (Some root_move) ≡ [] → IsRanked go_request depths_done new
 ranked_all go_request depths_done root_move new h n = record {
   top = gone_all go_request.position (worth go_request.position go_request.eval depths_done) (Some root_move) new (gone go_request depths_done (Some root_move) new h) n;
@@ -179,7 +179,7 @@ next_child_cost go_request depths_done root_move m w s beta e a n =
     sum_of_tree_sizes-next go_request.position depths_done (code_of m) (after go_request.position m) (legal_above go_request.position (Some root_move)) (legal_above go_request.position (Some m)) a n in
     omega arith
 
--- the next depth, and those above it, cost no more
+-- the load of the next depth is at most what was left for the depths above
 pub next_depth_cost : (go_request : GoRequest) (first : Move) (depths_done : ℕ) (phase : Phase) (s : Progress) → depths_done + 1 < go_request.depth → IsFirst go_request.position first → move_of (code_of first) ≡ Some first
     → load_of (go_at go_request (depths_done + 1) (first_phase go_request first (depths_done + 1)) (first_search go_request first (depths_done + 1))) ≤ load_of (go_at go_request depths_done phase s)
 next_depth_cost go_request first depths_done phase s h f b = omega (arith, begun_cost go_request first (depths_done + 1) h f b)

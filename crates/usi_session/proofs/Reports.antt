@@ -1,4 +1,4 @@
--- A line of a running `go` is reported.
+-- Reporting a line of a running `go`.
 use Rattle.std.proofs.Common.{◌≡◌, ◌≢◌, ℕ, suc, ◌+◌, ◌-◌, ◌<◌, ℤ, List, [], ◌∷◌, ◌++◌, refl, sym, ap, ◌∙◌, arith, append_assoc, subst, true, false, Bool, length, drop}
 use Rattle.std.proofs.lemmas.Bool.{eqb-true, eq-eqb, cond-true, cond-false, false_from_ne_true}
 use Rattle.std.proofs.lemmas.List.{drop_all}
@@ -26,7 +26,7 @@ numbered_lines-none : (p : Shogi) (eval : Eval) (depth number : ℕ) → numbere
 unfolding numbered_lines
 numbered_lines-none p eval depth number = refl
 
--- with one line the value and the pv are reported, and the depth ends
+-- with one line, its value and pv are reported, and the depth ends
 pub reported_one : (go_request : GoRequest) (depths_done lines_done : ℕ) (w : Walked) (old new : List ℕ) (v : ℤ) (moves : List Move) → IsLine go_request depths_done lines_done w → go_request.multi_pv ≡ 1 → legal_codes go_request.position ≢ []
     → v ≡ w.value → moves ≡ w.pv → new ≡ old ++ info_text (depths_done + 1) v moves → new ++ infos_after_line go_request depths_done lines_done ≡ old ++ infos_to_come go_request depths_done lines_done
 reported_one go_request depths_done lines_done w old new v moves l n ne value_is moves_are e =
@@ -44,7 +44,7 @@ reported_one go_request depths_done lines_done w old new v moves l n ne value_is
     ∙ append_assoc old (info_text (depths_done + 1) v moves) (deeper_infos go_request depths_done)
     ∙ ap (λ (xs : List ℕ). old ++ (xs ++ deeper_infos go_request depths_done)) (text ∙ sym left)
 
--- what is said after a line, of several: the lines after it, and the depths above
+-- with several lines, the info lines after the current one: the later ones of the depth, and the depths above
 after_at : (go_request : GoRequest) (depths_done lines_done : ℕ) (ends : Bool) → ends_depth go_request depths_done lines_done ≡ ends → (go_request.multi_pv == 1) ≡ false
     → cond ends (deeper_infos go_request depths_done) (infos_to_come go_request depths_done (lines_done + 1)) ≡ numbered_lines go_request.position go_request.eval (depths_done + 1) (lines_done + 1 + 1) (drop (lines_done + 1) (listed_at go_request depths_done)) ++ deeper_infos go_request depths_done
 after_at go_request depths_done lines_done true e n =
@@ -59,7 +59,7 @@ after_at go_request depths_done lines_done false e n =
 not_one : (n : ℕ) → n ≢ 1 → (n == 1) ≡ false
 not_one n ne = false_from_ne_true (n == 1) (λ e. ne (eqb-true n 1 e))
 
--- with several lines the current one is reported by its number
+-- with several lines, the current one is reported with its number
 pub reported_several : (go_request : GoRequest) (depths_done lines_done : ℕ) (w : Walked) (old new : List ℕ) (v : ℤ) (moves : List Move) → IsLine go_request depths_done lines_done w → go_request.multi_pv ≢ 1
     → v ≡ w.value → moves ≡ w.pv → new ≡ old ++ numbered_info_text (depths_done + 1) (lines_done + 1) v moves → new ++ infos_after_line go_request depths_done lines_done ≡ old ++ infos_to_come go_request depths_done lines_done
 reported_several go_request depths_done lines_done w old new v moves l ne value_is moves_are e =
@@ -80,15 +80,15 @@ reported_several go_request depths_done lines_done w old new v moves l ne value_
     ∙ ap (λ (xs : List ℕ). old ++ xs) (sym (append_assoc line more (deeper_infos go_request depths_done)))
     ∙ ap (λ (xs : List ℕ). old ++ (xs ++ deeper_infos go_request depths_done)) (sym left)
 
--- a line is whole, the only one of a depth
+-- the info line of the only line of a depth is a whole line
 pub one_grows : (old new : List ℕ) (depth : ℕ) (v : ℤ) (moves : List Move) → new ≡ old ++ info_text depth v moves → GrowsByLines old new
 one_grows old new depth v moves e = grows_by_text old new (info_text depth v moves) e (info_whole depth v moves)
 
--- and one of several
+-- a numbered info line is a whole line
 pub several_grow : (old new : List ℕ) (depth number : ℕ) (v : ℤ) (moves : List Move) → new ≡ old ++ numbered_info_text depth number v moves → GrowsByLines old new
 several_grow old new depth number v moves e = grows_by_text old new (numbered_info_text depth number v moves) e (numbered_info_whole depth number v moves)
 
--- after the last line of a depth comes the next depth
+-- the next depth comes after the last line of a depth
 pub reported_depth : (go_request : GoRequest) (depths_done : ℕ) → depths_done + 1 < go_request.depth → infos_to_come go_request (depths_done + 1) 0 ≡ deeper_infos go_request depths_done
 reported_depth go_request depths_done h =
     let n : go_request.depth - (depths_done + 1) ≡ suc (go_request.depth - (depths_done + 1 + 1)) = omega arith in

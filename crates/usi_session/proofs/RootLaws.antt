@@ -34,17 +34,17 @@ pub pv_roots-above : (p : Shogi) (eval : Eval) (k : ℕ) → 0 < k → pv_roots 
 pv_roots-above p eval zero h = absurd (omega arith)
 pv_roots-above p eval (suc k) h = let e : suc k - 1 ≡ k = omega arith in rw e (pv_roots-suc p eval k)
 
--- there is no best move: no search follows
+-- without a best move no search follows
 pub roots_end : (at : Shogi) (eval : Eval) (plies : ℕ) (b : Option Move) → b ≡ best at eval plies → b ≡ None
     → pv_roots at eval 0 ≡ then_pv_roots (λ q. pv_roots q eval (plies - 1)) at (best at eval plies)
 roots_end at eval plies b h n = pv_roots-leaf at eval ∙ sym (ap (then_pv_roots (λ q. pv_roots q eval (plies - 1)) at) (sym h ∙ n))
 
--- one move on
+-- the searches after the best move
 pub roots_next : (at next : Shogi) (eval : Eval) (plies : ℕ) (m : Move) (b : Option Move) → b ≡ best at eval plies → b ≡ Some m → next ≡ after at m
     → pv_roots next eval (plies - 1) ≡ then_pv_roots (λ q. pv_roots q eval (plies - 1)) at (best at eval plies)
 roots_next at next eval plies m b h n f = ap (λ q. pv_roots q eval (plies - 1)) f ∙ sym (ap (then_pv_roots (λ q. pv_roots q eval (plies - 1)) at) (sym h ∙ n))
 
--- the searches along the pv of a listed move, and along those behind it
+-- the searches along the pv of a listed move and along those behind it
 pub pvs_roots-next : (p : Shogi) (eval : Eval) (d : ℕ) (xs : List ℕ) (n x : ℕ) → slice_get xs n ≡ Some x → pv_roots (after_code p x) eval d ++ pvs_roots p eval d (drop (n + 1) xs) ≡ pvs_roots p eval d (drop n xs)
 pvs_roots-next p eval d xs n x e = sym (ap (pvs_roots p eval d) (drop_at xs n x e))
 
@@ -56,7 +56,7 @@ roots_of_depths-suc : (p : Shogi) (eval : Eval) (multi_pv depths_done more : ℕ
 unfolding roots_of_depths
 roots_of_depths-suc p eval multi_pv depths_done more = refl
 
--- a depth, and those above it
+-- the searches of a depth and of those above it
 depth_and_deeper : (go_request : GoRequest) (depths_done : ℕ) → depths_done < go_request.depth
     → depth_roots go_request.position go_request.eval go_request.multi_pv (depths_done + 1) ++ deeper_roots go_request depths_done
     ≡ roots_of_depths go_request.position go_request.eval go_request.multi_pv depths_done (go_request.depth - depths_done)
@@ -64,7 +64,7 @@ depth_and_deeper go_request depths_done h =
     let n : go_request.depth - depths_done ≡ suc (go_request.depth - (depths_done + 1)) = omega arith in
     rw n (sym (roots_of_depths-suc go_request.position go_request.eval go_request.multi_pv depths_done (go_request.depth - (depths_done + 1))))
 
--- behind the last line none is left
+-- behind the last line no search is left
 lines_roots-none : (go_request : GoRequest) (depths_done lines_done : ℕ) → lines_done ≡ length (listed_at go_request depths_done) → lines_roots go_request depths_done lines_done ≡ []
 lines_roots-none go_request depths_done lines_done e =
     ap (pvs_roots go_request.position go_request.eval depths_done) (drop_all lines_done (listed_at go_request depths_done) (omega arith))
@@ -79,7 +79,7 @@ begun_at go_request first depths_done search true e f =
 begun_at go_request first depths_done search false e f =
     let k : depths_done + 1 - 1 ≡ depths_done = omega arith in rw k refl
 
--- before a depth it and those above it are searched
+-- when a depth begins, its searches and those above it are left
 pub begun_roots : (go_request : GoRequest) (first : Move) (depths_done : ℕ) (search : Progress) → depths_done < go_request.depth → IsFirst go_request.position first
     → roots_of (go_at go_request depths_done (first_phase go_request first depths_done) search)
     ≡ roots_of_depths go_request.position go_request.eval go_request.multi_pv depths_done (go_request.depth - depths_done)
@@ -94,38 +94,38 @@ current_whole go None e =
     ap (λ (k : ℕ). pv_roots go.walk_position go.go_request.eval k ++ lines_roots go.go_request go.depths_done (go.lines_done + 1)) (not_above go.walk_plies e)
     ∙ ap (λ (roots : List Root). roots ++ lines_roots go.go_request go.depths_done (go.lines_done + 1)) (pv_roots-leaf go.walk_position go.go_request.eval)
 
--- once a pv is whole, those along the pvs behind it are left, and those of the depths above
+-- once a pv is whole, the searches along the pvs behind it and of the depths above are left
 pub whole_roots : (go : GoTaskView) → is_searching go ≡ false
     → roots_of go ≡ lines_roots go.go_request go.depths_done (go.lines_done + 1) ++ deeper_roots go.go_request go.depths_done
 whole_roots go whole = ap (λ (roots : List Root). roots ++ deeper_roots go.go_request go.depths_done) (current_whole go go.root_move whole)
 
--- and where it is the last one of its depth, those of the depths above
+-- once the last line of a depth is whole, the searches of the depths above are left
 pub ended_roots : (go : GoTaskView) → is_searching go ≡ false → is_last_of_depth go ≡ true → roots_of go ≡ deeper_roots go.go_request go.depths_done
 ended_roots go whole last =
     whole_roots go whole
     ∙ ap (λ (roots : List Root). roots ++ deeper_roots go.go_request go.depths_done) (lines_roots-none go.go_request go.depths_done (go.lines_done + 1) (eqb-true (go.lines_done + 1) (length (listed_at go.go_request go.depths_done)) last))
 
--- above the last depth none is left
+-- above the last depth no search is left
 deeper_roots-none : (go_request : GoRequest) (depths_done : ℕ) → depths_done + 1 ≡ go_request.depth → deeper_roots go_request depths_done ≡ []
 deeper_roots-none go_request depths_done e = let n : go_request.depth - (depths_done + 1) ≡ 0 = omega arith in rw n (roots_of_depths-start go_request.position go_request.eval go_request.multi_pv (depths_done + 1))
 
--- once its last line is whole none is left
+-- once the last line of a `go` is whole, no search is left
 pub roots_of-last : (go : GoTaskView) → is_searching go ≡ false → is_last go ≡ true → roots_of go ≡ []
 roots_of-last go whole last =
     let parts = and_parts (ends_depth go.go_request go.depths_done go.lines_done) (go.depths_done + 1 == go.go_request.depth) last in
     ended_roots go whole parts.0 ∙ deeper_roots-none go.go_request go.depths_done (eqb-true (go.depths_done + 1) go.go_request.depth parts.1)
 
--- where a move is legal each depth is searched
+-- if a move is legal, each depth is searched
 pub roots_begun : (position : Shogi) (eval : Eval) (multi_pv depth code : ℕ) (codes : List ℕ) → legal_codes position ≡ code ∷ codes
     → roots_of_depths position eval multi_pv 0 depth ≡ roots_where position eval multi_pv depth (legal_codes position)
 roots_begun position eval multi_pv depth code codes e = sym (ap (roots_where position eval multi_pv depth) e)
 
--- and none where there is none
+-- if no move is legal, nothing is searched
 pub roots_none : (position : Shogi) (eval : Eval) (multi_pv depth : ℕ) → legal_codes position ≡ []
     → [] ≡ roots_where position eval multi_pv depth (legal_codes position)
 roots_none position eval multi_pv depth e = sym (ap (roots_where position eval multi_pv depth) e)
 
--- the search of a root move is none of those along a pv
+-- the search of a root move's child is not along a pv
 pub ranking_roots : (go_request : GoRequest) (depths_done : ℕ) (child : Child) (now : Phase) (before after : Progress)
     → lines_done_in now ≡ 0 → LeavesRoots go_request depths_done (root_move_in now) (walk_in go_request now) after
     → roots_of (go_at go_request depths_done now after) ≡ roots_of (go_at go_request depths_done (AtMove child) before)

@@ -25,7 +25,7 @@ pub infos_of_depths-suc : (go_request : GoRequest) (depths_done more : ℕ) → 
 unfolding infos_of_depths
 infos_of_depths-suc go_request depths_done more = refl
 
--- the depths that are done, and so many above them
+-- the info lines of the depths done, and of the next ones
 infos_of_depths-from : (go_request : GoRequest) (more depths_done : ℕ) → info_lines go_request.position go_request.eval go_request.multi_pv (depths_done + more) ≡ info_lines go_request.position go_request.eval go_request.multi_pv depths_done ++ infos_of_depths go_request depths_done more
 infos_of_depths-from go_request zero depths_done = let n : depths_done + 0 ≡ depths_done = omega arith in rw (n, infos_of_depths-start go_request depths_done, append-nil (info_lines go_request.position go_request.eval go_request.multi_pv depths_done)) refl
 infos_of_depths-from go_request (suc more) depths_done =
@@ -36,12 +36,12 @@ infos_of_depths-from go_request (suc more) depths_done =
 deeper_infos-none : (go_request : GoRequest) (depths_done : ℕ) → depths_done + 1 ≡ go_request.depth → deeper_infos go_request depths_done ≡ []
 deeper_infos-none go_request depths_done e = let n : go_request.depth - (depths_done + 1) ≡ 0 = omega arith in rw n (infos_of_depths-start go_request (depths_done + 1))
 
--- before the first line of a depth the whole depth is still to be said, and those above it
+-- before the first line of a depth, the info lines to come are those of that depth and those above it
 pub infos_to_come-start : (go_request : GoRequest) (depths_done : ℕ) → depths_done < go_request.depth → infos_to_come go_request depths_done 0 ≡ infos_of_depths go_request depths_done (go_request.depth - depths_done)
 infos_to_come-start go_request depths_done h =
     let n : go_request.depth - depths_done ≡ suc (go_request.depth - (depths_done + 1)) = omega arith in rw n (sym (infos_of_depths-suc go_request depths_done (go_request.depth - (depths_done + 1))))
 
--- before the first depth all is still to be said
+-- before the first depth, all info lines are to come
 pub infos_to_come-all : (go_request : GoRequest) → 0 < go_request.depth → legal_codes go_request.position ≢ [] → infos_to_come go_request 0 0 ≡ go_infos go_request.position go_request.eval go_request.multi_pv go_request.depth
 infos_to_come-all go_request some h =
     let n : go_request.depth - 0 ≡ go_request.depth = omega arith in
@@ -55,7 +55,7 @@ both true true e = (refl, refl)
 both true false e = absurd (cc)
 both false b e = absurd (cc)
 
--- nothing is said after the last line
+-- after the last line of a `go` nothing is said
 pub infos_after_line-last : (go : GoTaskView) → is_last go ≡ true → infos_after go ≡ []
 infos_after_line-last go e =
     let parts : (ends_depth go.go_request go.depths_done go.lines_done ≡ true) × ((go.depths_done + 1 == go.go_request.depth) ≡ true) = both (ends_depth go.go_request go.depths_done go.lines_done) (go.depths_done + 1 == go.go_request.depth) e in
@@ -77,7 +77,7 @@ cost_to_depth-more : (go_request : GoRequest) (depths_done : ℕ) → cost_to_de
 unfolding cost_to_depth
 cost_to_depth-more go_request depths_done = rw add-one refl
 
--- a depth, and those above it
+-- the cost of a depth and of those above it
 pub cost_of_depths-more : (go_request : GoRequest) (depths_done : ℕ) → depths_done < go_request.depth → cost_of_depths go_request depths_done (go_request.depth - depths_done) ≡ depth_cost go_request.position go_request.eval go_request.multi_pv (depths_done + 1) + cost_of_depths go_request (depths_done + 1) (go_request.depth - (depths_done + 1))
 cost_of_depths-more go_request depths_done h =
     let n : go_request.depth - depths_done ≡ suc (go_request.depth - (depths_done + 1)) = omega arith in rw n (cost_of_depths-suc go_request depths_done (go_request.depth - (depths_done + 1)))
@@ -88,14 +88,14 @@ cost_of_depths-from go_request (suc more) depths_done =
     let n : depths_done + suc more ≡ (depths_done + 1) + more = omega arith in
     rw (n, cost_of_depths-suc go_request depths_done more, cost_of_depths-from go_request more (depths_done + 1), cost_to_depth-more go_request depths_done) (omega arith)
 
--- above no depth is each depth
+-- with no depth done, the cost is that of all depths
 pub cost_of_depths-all : (go_request : GoRequest) → cost_of_depths go_request 0 go_request.depth ≡ cost_to_depth go_request.position go_request.eval go_request.multi_pv go_request.depth
 cost_of_depths-all go_request =
     let m : 0 + go_request.depth ≡ go_request.depth = omega arith in
     let whole : cost_to_depth go_request.position go_request.eval go_request.multi_pv (0 + go_request.depth) ≡ cost_to_depth go_request.position go_request.eval go_request.multi_pv 0 + cost_of_depths go_request 0 go_request.depth = cost_of_depths-from go_request go_request.depth 0 in
     sym (ap (cost_to_depth go_request.position go_request.eval go_request.multi_pv) (sym m) ∙ whole ∙ omega (arith, cost_to_depth-start go_request))
 
--- what is said before the bestmove, and then the bestmove
+-- the bytes are the info lines, then those of the bestmove alone
 pub write_or_hold-bytes : (s : State) (infos : List ℕ) (held : HeldBestmove) (hold : Hold) → (write_or_hold s infos held hold).bytes ≡ infos ++ (write_or_hold s [] held hold).bytes
 write_or_hold-bytes s infos held Nothing = refl
 write_or_hold-bytes s infos held UntilStop = sym (append-nil infos)
@@ -106,17 +106,17 @@ write_or_hold-state s infos held Nothing = refl
 write_or_hold-state s infos held UntilStop = refl
 write_or_hold-state s infos held UntilHit = refl
 
--- a `go` ends no session
+-- writing or holding a bestmove ends no session
 pub write_or_hold-over : (s : State) (infos : List ℕ) (held : HeldBestmove) (hold : Hold) → (write_or_hold s infos held hold).state.is_over ≡ s.is_over
 write_or_hold-over s infos held Nothing = refl
 write_or_hold-over s infos held UntilStop = refl
 write_or_hold-over s infos held UntilHit = refl
 
--- what a `go` asks in a state
+-- the request of a `go` in a state
 abbrev pub question_of : State → ℕ → Hold → GoRequest
 question_of s depth hold = record { position = s.position; eval = s.options.eval; multi_pv = s.options.multi_pv; depth = depth; hold = hold }
 
--- before its first line all of its answer is still to be said
+-- before the first line of a `go`, its rest is its whole answer
 pub begins-rest : (s : State) (depth : ℕ) (hold : Hold) (first : Move) (go : GoTaskView) → 0 < depth → IsFirst s.position first → go.go_request ≡ question_of s depth hold → go.depths_done ≡ 0 → go.lines_done ≡ 0 → rest_of_go s go ≡ answer_go s depth hold
 begins-rest s depth hold first go some f q t h =
     let all : infos_to_come (question_of s depth hold) 0 0 ≡ go_infos s.position s.options.eval s.options.multi_pv depth = infos_to_come-all (question_of s depth hold) some (not_empty (legal_codes s.position) (legal_above s.position (Some first)) (code_of first) f) in

@@ -1,4 +1,4 @@
--- What a session that is settled or over still owes.
+-- Debts of a session that is over or has nothing pending.
 use Rattle.std.proofs.Common.{◌≡◌, ℕ, List, [], ◌∷◌, ◌++◌, refl, sym, ap, ◌∙◌, false, true, Bool, append-nil, Option, Some, None}
 use Rattle.std.specs.Prelude.{◌&&◌, ◌||◌, not, nat_lt, length, cond, is_some}
 use Rattle.usi_lines.specs.Lines.{Line, ahead, lines}
@@ -11,7 +11,7 @@ use Rattle.usi_texts.specs.declared.setup.Setup.{Setup}
 use Rattle.usi_texts.specs.Setup.{default_setup}
 use Rattle.usi_session.specs.declared.limits.TheConstants.{QUEUE_FULL}
 
--- no line, no reply
+-- without lines there are no replies
 pub replies_from-none : (s : State) → replies_from s [] ≡ []
 unfolding replies_from
 replies_from-none s = refl
@@ -20,7 +20,7 @@ over_line : (over : Bool) (s : State) (line : Line) (rest : List Line) → over 
 over_line true s line rest e h = h
 over_line false s line rest e h = absurd (cc)
 
--- a session that is over answers nothing
+-- a session that is over replies nothing
 pub replies_from-over : (s : State) (ahead : List Line) → s.is_over ≡ true → replies_from s ahead ≡ []
 unfolding replies_from
 replies_from-over s [] over = refl
@@ -29,7 +29,7 @@ replies_from-over s (line ∷ rest) over = over_line s.is_over s line rest over 
 owed-over : (s : State) (go_task : Option GoTaskView) (ahead : List Line) → s.is_over ≡ true → owed s go_task ahead ≡ []
 owed-over s go_task ahead over = ap (λ (b : Bool). cond b [] (owed_after (rest_of_go_if s go_task) ahead)) over
 
--- a session that is over owes what is queued
+-- a session that is over owes its queue
 pub due-over : (s : SessionView) (x : List ℕ) → s.state.is_over ≡ true → due s x ≡ s.queued
 due-over s x over = ap (λ xs. s.queued ++ xs) (owed-over s.state s.go_task (ahead s.input x) over) ∙ append-nil s.queued
 
@@ -39,12 +39,12 @@ nothing_owed false s None [] e = replies_from-none s
 nothing_owed false s None (line ∷ rest) e = absurd (cc)
 nothing_owed false s (Some go) xs e = absurd (cc)
 
--- a session with nothing pending owes what is queued
+-- a session with nothing pending owes its queue
 pub due-settled : (s : SessionView) → is_pending s ≡ false → due s [] ≡ s.queued
 due-settled s settled =
     ap (λ xs. s.queued ++ xs) (nothing_owed s.state.is_over s.state s.go_task (ahead s.input []) settled) ∙ append-nil s.queued
 
--- no line, no change
+-- without lines the state stays
 state_from-none : (s : State) → state_from s [] ≡ s
 unfolding state_from
 state_from-none s = refl
@@ -53,7 +53,7 @@ over_stays : (over : Bool) (s : State) (line : Line) → over ≡ true → (answ
 over_stays true s line e = refl
 over_stays false s line e = absurd (cc)
 
--- a session that is over stays as it is
+-- a session that is over keeps its state
 state_from-over : (s : State) (ahead : List Line) → s.is_over ≡ true → state_from s ahead ≡ s
 unfolding state_from
 state_from-over s [] over = refl
@@ -63,13 +63,13 @@ rest_of_go-over : (s : State) (go_task : Option GoTaskView) → (rest_of_go_if s
 rest_of_go-over s None = refl
 rest_of_go-over s (Some go) = write_or_hold-over s (infos_left go) (bestmove_to go.go_request go.go_request.depth) go.go_request.hold
 
--- a session that is over will be over
+-- a session that is over stays over
 pub state_due-over : (s : SessionView) (x : List ℕ) → s.state.is_over ≡ true → (state_due s x).is_over ≡ true
 state_due-over s x over =
     let ended : (rest_of_go_if s.state s.go_task).state.is_over ≡ true = rest_of_go-over s.state s.go_task ∙ over in
     ap (λ (t : State). t.is_over) (state_from-over (rest_of_go_if s.state s.go_task).state (ahead s.input x) ended) ∙ ended
 
--- a session that is over will be as it is, whatever it is sent
+-- a session that is over ends in one state, whatever it is sent
 pub state_due-over_same : (s : SessionView) (x y : List ℕ) → s.state.is_over ≡ true → state_due s x ≡ state_due s y
 state_due-over_same s x y over =
     let ended : (rest_of_go_if s.state s.go_task).state.is_over ≡ true = rest_of_go-over s.state s.go_task ∙ over in
@@ -81,7 +81,7 @@ idle_state false s None [] alive e = state_from-none s
 idle_state false s None (line ∷ rest) alive e = absurd (cc)
 idle_state false s (Some go) xs alive e = absurd (cc)
 
--- alive, with nothing pending, its state is the one after all that it was sent
+-- a live session with nothing pending has reached the state after all its lines
 pub state_due-settled : (s : SessionView) → s.state.is_over ≡ false → is_pending s ≡ false → state_due s [] ≡ s.state
 state_due-settled s alive settled = idle_state s.state.is_over s.state s.go_task (ahead s.input []) alive settled
 
@@ -98,7 +98,7 @@ settled_of true true short e = absurd (cc)
 pub wanting-settled : (s : SessionView) → wants_input s ≡ true → is_pending s ≡ false
 wanting-settled s wants = settled_of s.state.is_over (is_some s.go_task || has_line (ahead s.input [])) (nat_lt (length s.queued) QUEUE_FULL) wants
 
--- a session that wants input owes what is queued
+-- a session that wants input owes its queue
 pub due-wanting : (s : SessionView) → wants_input s ≡ true → due s [] ≡ s.queued
 due-wanting s wants = due-settled s (wanting-settled s wants)
 
@@ -108,7 +108,7 @@ wants_from false false false a b c = absurd (cc)
 wants_from false true short a b c = absurd (cc)
 wants_from true line short a b c = absurd (cc)
 
--- alive and settled, with nothing queued, it wants input
+-- a live session with nothing pending and nothing queued wants input
 pub wants_after : (s : SessionView) → s.state.is_over ≡ false → is_pending s ≡ false → s.queued ≡ [] → wants_input s ≡ true
 wants_after s alive settled empty =
     wants_from s.state.is_over (is_some s.go_task || has_line (ahead s.input [])) (nat_lt (length s.queued) QUEUE_FULL) alive settled (ap (λ q. nat_lt (length q) QUEUE_FULL) empty)
@@ -125,14 +125,14 @@ alive_of : (over settled short : Bool) → (not over && not settled && short) �
 alive_of false settled short e = refl
 alive_of true settled short e = absurd (cc)
 
--- a session that wants input is not over, and all that it was sent is answered
+-- a session that wants input is not over after the lines it was sent
 pub state_due-wanting : (s : SessionView) → wants_input s ≡ true → (state_due s []).is_over ≡ false
 state_due-wanting s wants =
     let alive : s.state.is_over ≡ false = alive_of s.state.is_over (is_some s.go_task || has_line (ahead s.input [])) (nat_lt (length s.queued) QUEUE_FULL) wants in
     let settled : is_pending s ≡ false = wanting-settled s wants in
     ap (λ (t : State). t.is_over) (state_due-settled s alive settled) ∙ alive
 
--- no session is over before it was sent anything
+-- no session is over before its first byte
 pub initial_state_alive_under : (setup : Setup) → is_over_after_under setup [] ≡ false
 unfolding lines state_from
 initial_state_alive_under setup = refl

@@ -1,4 +1,4 @@
--- One line more is answered, or one line of a `go` is reported.
+-- Answering one more line, or reporting one more line of a `go`.
 use Rattle.std.proofs.Common.{◌≡◌, ℕ, ◌+◌, ◌-◌, ◌*◌, ◌<◌, ◌≤◌, List, [], ◌∷◌, ◌++◌, length, refl, sym, ap, ◌∙◌, arith, append_assoc, append-nil, true, false, Bool, Option, Some, None, cond}
 use Rattle.std.specs.Prelude.{IfNone, IfSome, OnSome, not, ◌&&◌, ◌||◌, is_some}
 use Rattle.usi_lines.specs.Lines.{ahead, Buffer}
@@ -38,7 +38,7 @@ owed_either : (over : Bool) (s : State) (go_task : Option GoTaskView) (ahead : L
 owed_either false s go_task ahead e h = refl
 owed_either true s go_task ahead e h = rw (h refl) (sym (replies_from-over s ahead e))
 
--- nothing is running in a session that is over
+-- a session that is over has no running `go`
 pub owed_on : (s : State) (go_task : Option GoTaskView) (ahead : List Line) → (s.is_over ≡ true → go_task ≡ None) → owed s go_task ahead ≡ owed_after (rest_of_go_if s go_task) ahead
 owed_on s go_task ahead h = owed_either s.is_over s go_task ahead refl h
 
@@ -49,7 +49,7 @@ with_rest-parts : (bytes : List ℕ) (s : State) (go_task : Option GoTaskView) �
 with_rest-parts bytes s None = sym (append-nil bytes)
 with_rest-parts bytes s (Some go) = refl
 
--- the answer was queued, and the state is the one after it; or its `go` is running
+-- the debt is unchanged when the answer to a line is queued or its `go` started
 pub due_on : (s next : State) (queued more reply : List ℕ) (idle go_task : Option GoTaskView) (line : Line) (all rest : List Line) → s.is_over ≡ false → idle ≡ None → all ≡ line ∷ rest → more ≡ queued ++ reply → with_rest reply next go_task ≡ (answer_to s line).bytes → (rest_of_go_if next go_task).state ≡ (answer_to s line).state → (next.is_over ≡ true → go_task ≡ None)
     → more ++ owed next go_task rest ≡ queued ++ owed s idle all
 due_on s next queued more reply idle go_task line all rest alive i e f g h over =
@@ -63,14 +63,14 @@ due_on s next queued more reply idle go_task line all rest alive i e f g h over 
     ∙ (ap (λ xs. xs ++ replies_from (rest_of_go_if next go_task).state rest) given
     ∙ (ap (λ (t : State). (answer_to s line).bytes ++ replies_from t rest) h ∙ sym after)))))
 
--- the `go` of a line costs what the line did
+-- a `go` costs at most what its line did
 pub load_on : (s next : State) (idle go_task : Option GoTaskView) (line : Line) (all rest : List Line) → s.is_over ≡ false → idle ≡ None → all ≡ line ∷ rest → (rest_of_go_if next go_task).state ≡ (answer_to s line).state → load_of_if go_task ≤ cost_to s line → load_ahead next go_task rest ≤ load_ahead s idle all
 load_on s next idle go_task line all rest alive i e h less =
     let whole : costs_from s all ≡ cost_to s line + costs_from (answer_to s line).state rest = ap (costs_from s) e ∙ costs_from-alive s line rest alive in
     let same : costs_from (rest_of_go_if next go_task).state rest ≡ costs_from (answer_to s line).state rest = ap (λ (t : State). costs_from t rest) h in
     rw i (omega arith)
 
--- the state after all lines is that after the `go` of a line and the lines behind it
+-- the state after all lines is the one after the `go` of a line and the lines behind it
 pub state_on : (s next : State) (idle go_task : Option GoTaskView) (line : Line) (all rest : List Line) → s.is_over ≡ false → idle ≡ None → all ≡ line ∷ rest → (rest_of_go_if next go_task).state ≡ (answer_to s line).state → state_from (rest_of_go_if next go_task).state rest ≡ state_from (rest_of_go_if s idle).state all
 state_on s next idle go_task line all rest alive i e h =
     ap (λ (t : State). state_from t rest) h ∙ (sym (state_from-alive s line rest alive) ∙ (ap (state_from s) (sym e) ∙ ap (λ (o : Option GoTaskView). state_from (rest_of_go_if s o).state all) (sym i)))
@@ -85,18 +85,18 @@ rest-bytes s go = write_or_hold-bytes s (infos_left go) (last_bestmove go) go.go
 rest-state : (s : State) (go : GoTaskView) → (rest_of_go s go).state ≡ (write_or_hold s [] (last_bestmove go) go.go_request.hold).state
 rest-state s go = write_or_hold-state s (infos_left go) (last_bestmove go) go.go_request.hold
 
--- a `go` that has reported a line more leads to the same state
+-- reporting a line does not change the state after a `go`
 pub rest_reported-state : (s : State) (go more : GoTaskView) → more.go_request ≡ go.go_request → (rest_of_go s more).state ≡ (rest_of_go s go).state
 rest_reported-state s go more q =
     rest-state s more ∙ (ap (λ (go_request : GoRequest). (write_or_hold s [] (bestmove_to go_request go_request.depth) go_request.hold).state) q ∙ sym (rest-state s go))
 
--- and costs no more, with the lines ahead
+-- reporting a line does not raise the load, with the lines ahead
 pub load_reported : (s : State) (go more : GoTaskView) (go_task : Option GoTaskView) (ahead : List Line) → go_task ≡ Some go → more.go_request ≡ go.go_request → load_of more ≤ load_of go → load_ahead s (Some more) ahead ≤ load_ahead s go_task ahead
 load_reported s go more go_task ahead i q less =
     let same : costs_from (rest_of_go s more).state ahead ≡ costs_from (rest_of_go s go).state ahead = ap (λ (t : State). costs_from t ahead) (rest_reported-state s go more q) in
     rw i (omega arith)
 
--- the line was reported
+-- the debt is unchanged when a line of a running `go` is reported
 pub due_reported : (s : State) (queued more infos : List ℕ) (go next : GoTaskView) (go_task : Option GoTaskView) (ahead : List Line) → s.is_over ≡ false → go_task ≡ Some go → next.go_request ≡ go.go_request → infos_left next ≡ infos_after go
     → infos ++ infos_after go ≡ infos_left go → more ≡ queued ++ infos → more ++ owed s (Some next) ahead ≡ queued ++ owed s go_task ahead
 due_reported s queued more infos go next go_task ahead alive i q f g m =
@@ -108,11 +108,11 @@ due_reported s queued more infos go next go_task ahead alive i q f g m =
     ap (λ xs. xs ++ owed s (Some next) ahead) m ∙ (append_assoc queued infos (owed s (Some next) ahead)
     ∙ ap (λ xs. queued ++ xs) (ap (λ xs. infos ++ xs) after ∙ (sym (append_assoc infos (rest_of_go s next).bytes (replies_from (rest_of_go s go).state ahead)) ∙ (ap (λ xs. xs ++ replies_from (rest_of_go s go).state ahead) bytes ∙ sym before))))
 
--- its end leads to the same state
+-- ending a `go` leads to the state that was owed
 pub ends-state : (s next : State) (go : GoTaskView) (held : HeldBestmove) → held ≡ last_bestmove go → next ≡ (write_or_hold s [] held held.until).state → (rest_of_go s go).state ≡ next
 ends-state s next go held e h = rest-state s go ∙ (ap (λ (k : HeldBestmove). (write_or_hold s [] k k.until).state) (sym e) ∙ sym h)
 
--- the last line was reported, and the bestmove written or held: all that it still said
+-- the last line and the bestmove are all that the `go` still owed
 pub ends_bytes : (s : State) (infos reply : List ℕ) (go : GoTaskView) (held : HeldBestmove) → is_last go ≡ true → held ≡ last_bestmove go
     → infos ++ infos_after go ≡ infos_left go → reply ≡ infos ++ (write_or_hold s [] held held.until).bytes → reply ≡ (rest_of_go s go).bytes
 ends_bytes s infos reply go held last e f g =
@@ -130,11 +130,11 @@ alive_of : (over some : Bool) → (not over && some) ≡ true → over ≡ false
 alive_of false some e = refl
 alive_of true some e = absurd (cc)
 
--- what is pending is alive
+-- a session with something pending is alive
 pub pending_alive : (s : SessionView) → is_pending s ≡ true → s.state.is_over ≡ false
 pending_alive s e = alive_of s.state.is_over (is_some s.go_task || has_line (ahead s.input [])) e
 
--- a line less is ahead, and its `go` has fewer lines to report than it stood for
+-- answering a line lowers the number of turns left
 pub turns_on : (s next : State) (idle go_task : Option GoTaskView) (line : Line) (all rest : List Line) → s.is_over ≡ false → idle ≡ None → all ≡ line ∷ rest → (rest_of_go_if next go_task).state ≡ (answer_to s line).state → load_of_if go_task ≤ cost_to s line → reports_of_if go_task ≤ most_reports
     → load_ahead next go_task rest + ((most_reports + 1) * length rest + reports_of_if go_task) < load_ahead s idle all + ((most_reports + 1) * length all + reports_of_if idle)
 turns_on s next idle go_task line all rest alive i e h less least =
@@ -147,7 +147,7 @@ unfolding roots_from
 roots_from-alive s line rest alive =
     ap (λ (over : Bool). cond over [] (roots_to s line) ++ roots_from (answer_unless over s line).state rest) alive
 
--- and one that is over for none
+-- a session that is over searches for no line
 roots_from-over : (s : State) (lines : List Line) → s.is_over ≡ true → roots_from s lines ≡ []
 unfolding roots_from
 roots_from-over s [] over = refl
@@ -155,7 +155,7 @@ roots_from-over s (line ∷ rest) over =
     ap (λ (b : Bool). cond b [] (roots_to s line) ++ roots_from (answer_unless b s line).state rest) over
     ∙ roots_from-over s rest over
 
--- nothing is searched in a session that is over
+-- in a session that is over nothing is searched
 roots_either : (over : Bool) (s : State) (go_task : Option GoTaskView) (ahead : List Line) → s.is_over ≡ over → (over ≡ true → go_task ≡ None) → cond over [] (roots_ahead s go_task ahead) ≡ roots_ahead s go_task ahead
 roots_either false s go_task ahead e h = refl
 roots_either true s go_task ahead e h = rw (h refl) (sym (roots_from-over s ahead e))
@@ -173,17 +173,17 @@ nothing_searched false s None [] e = refl
 nothing_searched false s None (line ∷ rest) e = absurd (cc)
 nothing_searched false s (Some go) xs e = absurd (cc)
 
--- where nothing is pending no search is left
+-- if nothing is pending, no search is left
 pub no_roots : (s : SessionView) → is_pending s ≡ false → roots_left s ≡ []
 no_roots s settled = nothing_searched s.state.is_over s.state s.go_task (ahead s.input []) settled
 
--- the `go` of a line searches what the line did
+-- a `go` has the searches of its line
 pub roots_on : (s next : State) (idle go_task : Option GoTaskView) (line : Line) (all rest : List Line) → s.is_over ≡ false → idle ≡ None → all ≡ line ∷ rest → (rest_of_go_if next go_task).state ≡ (answer_to s line).state → roots_of_if go_task ≡ roots_to s line → roots_ahead next go_task rest ≡ roots_ahead s idle all
 roots_on s next idle go_task line all rest alive i e h same =
     let whole : roots_from s all ≡ roots_to s line ++ roots_from (answer_to s line).state rest = ap (roots_from s) e ∙ roots_from-alive s line rest alive in
     rw i (rw same (ap (λ (t : State). roots_to s line ++ roots_from t rest) h ∙ sym whole))
 
--- so does a `go` that has reported a line more, with the lines ahead
+-- reporting a line does not change the searches left, with the lines ahead
 pub roots_reported : (s : State) (go more : GoTaskView) (go_task : Option GoTaskView) (ahead : List Line) → go_task ≡ Some go → more.go_request ≡ go.go_request → roots_of more ≡ roots_of go → roots_unless_over s (Some more) ahead ≡ roots_unless_over s go_task ahead
 roots_reported s go more go_task ahead i q same =
     rw i (ap (λ (roots : List Root). cond s.is_over [] roots) (rw same (ap (λ (t : State). roots_of go ++ roots_from t ahead) (rest_reported-state s go more q))))
@@ -192,14 +192,14 @@ less_load : (new old budget : ℕ) (result : Option ℕ) → IfNone result (budg
 less_load new old budget None spent made = let h : budget + new ≤ old = spent in omega arith
 less_load new old budget (Some n) spent made = let h : n + new ≤ old = made in omega arith
 
--- where nothing changed what is owed stays
+-- an unchanged session owes what it did
 pub keeps_same : (old new : SessionView) → new ≡ old → KeepsDue old new
 keeps_same old new e = rw e (record { due_is = λ x. refl; after_is = λ x. refl; load_most = omega arith; grown = grows_by_none old.queued })
 
 pub all_kept : (old new : SessionView) → new ≡ old → KeepsAll old new
 all_kept old new e = record { due = keeps_same old new e; roots = λ x. ap (λ (t : SessionView). roots_due t x) e }
 
--- and from one time to the next
+-- unchanged debts over two calls
 pub keeps_then : (a b c : SessionView) → KeepsDue a b → KeepsDue b c → KeepsDue a c
 keeps_then a b c g h = record {
   due_is = λ x. h.due_is x ∙ g.due_is x;
@@ -208,13 +208,13 @@ keeps_then a b c g h = record {
   grown = grows_then g.grown h.grown;
 }
 
--- and one that ends has none left
+-- a `go` that ends leaves no search of its own
 pub roots_ended : (s next : State) (queued more : List ℕ) (go : GoTaskView) (go_task : Option GoTaskView) (ahead : List Line) → s.is_over ≡ false → go_task ≡ Some go → is_last go ≡ true → is_searching go ≡ false → QueuesEnd go s next queued more → roots_unless_over next None ahead ≡ roots_unless_over s go_task ahead
 roots_ended s next queued more go go_task ahead alive i last whole h =
     let same : roots_ahead next None ahead ≡ roots_ahead s (Some go) ahead = rw (roots_of-last go whole last) (ap (λ (t : State). roots_from t ahead) h.state_is) in
     rw i (roots_where_idle next None ahead (λ _. refl) ∙ (same ∙ sym (roots-alive s (Some go) ahead alive)))
 
--- a search went on
+-- a search that continues leaves the debt unchanged
 pub keeps_searched : (s : State) (queued : List ℕ) (input : Buffer) (go next : GoTaskView) (go_task : Option GoTaskView) (budget : ℕ) (result : Option ℕ) → go_task ≡ Some go → IsSameButForSearch go next
     → IfNone result (budget + load_of next ≤ load_of go) → IfSome result (λ made. made + load_of next ≤ load_of go)
     → KeepsDue (record { state = s; go_task = go_task; queued = queued; input = input }) (record { state = s; go_task = Some next; queued = queued; input = input })
@@ -229,7 +229,7 @@ keeps_searched s queued input go next go_task budget result i e spent made =
       grown = grows_by_none queued;
     })
 
--- a line was reported
+-- reporting a line leaves the debt unchanged
 pub keeps_reported : (s : State) (queued more : List ℕ) (input : Buffer) (go next : GoTaskView) (go_task : Option GoTaskView) → is_pending (record { state = s; go_task = go_task; queued = queued; input = input }) ≡ true → go_task ≡ Some go
     → next.go_request ≡ go.go_request → infos_left next ≡ infos_after go → load_of next ≤ load_of go → QueuesLine go queued more
     → KeepsDue (record { state = s; go_task = go_task; queued = queued; input = input }) (record { state = s; go_task = Some next; queued = more; input = input })
@@ -242,7 +242,7 @@ keeps_reported s queued more input go next go_task pending i q f less h =
       grown = record { lines = h.line; after_is = h.after_line; whole = h.whole };
     }
 
--- a `go` ended
+-- ending a `go` leaves the debt unchanged
 pub keeps_ended : (s next : State) (queued more : List ℕ) (input : Buffer) (go : GoTaskView) (go_task : Option GoTaskView) → is_pending (record { state = s; go_task = go_task; queued = queued; input = input }) ≡ true → go_task ≡ Some go
     → QueuesEnd go s next queued more
     → KeepsDue (record { state = s; go_task = go_task; queued = queued; input = input }) (record { state = next; go_task = None; queued = more; input = input })
@@ -256,7 +256,7 @@ keeps_ended s next queued more input go go_task pending i h =
       grown = record { lines = (rest_of_go s go).bytes; after_is = h.after_end; whole = h.whole };
     }
 
--- a line was answered, or its `go` was started
+-- answering a line, or starting its `go`, leaves the debt unchanged
 pub keeps_answered : (s next : State) (queued more : List ℕ) (input rest : Buffer) (idle go_task : Option GoTaskView) (line : Line) → is_pending (record { state = s; go_task = idle; queued = queued; input = input }) ≡ true → idle ≡ None
     → ((x : List ℕ) → ahead input x ≡ line ∷ ahead rest x) → QueuesAnswer s line next queued more go_task
     → KeepsDue (record { state = s; go_task = idle; queued = queued; input = input }) (record { state = next; go_task = go_task; queued = more; input = rest })
@@ -278,14 +278,14 @@ roots_answered s next queued more input rest idle go_task line pending i first h
     ∙ (roots_on s next idle go_task line (ahead input x) (ahead rest x) alive i (first x) h.begun.state_is h.begun.roots_are
     ∙ sym (roots-alive s idle (ahead input x) alive))
 
--- and a turn less may be taken
+-- answering a line leaves a turn less
 pub fewer_answered : (s next : State) (queued more : List ℕ) (input rest : Buffer) (idle go_task : Option GoTaskView) (line : Line) → is_pending (record { state = s; go_task = idle; queued = queued; input = input }) ≡ true → idle ≡ None
     → ((x : List ℕ) → ahead input x ≡ line ∷ ahead rest x) → QueuesAnswer s line next queued more go_task
     → turns (record { state = next; go_task = go_task; queued = more; input = rest }) < turns (record { state = s; go_task = idle; queued = queued; input = input })
 fewer_answered s next queued more input rest idle go_task line pending i first h =
     turns_on s next idle go_task line (ahead input []) (ahead rest []) (pending_alive (record { state = s; go_task = idle; queued = queued; input = input }) pending) i (first []) h.begun.state_is h.begun.load h.begun.reports
 
--- what was made of a `go` is no longer left of it, nor of the session
+-- steps made lower the load of the `go`, and that of the session
 added : (made new old x y : ℕ) → made + new ≤ old → x ≡ y → made + (new + x) ≤ old + y
 added made new old x y less same = omega arith
 
@@ -317,7 +317,7 @@ fewer_searched (Some n) s queued input go next go_task i e fewer =
     rw i (fewer_added (load_of next) (load_of go) (costs_from (rest_of_go s next).state (ahead input [])) (costs_from (rest_of_go s go).state (ahead input [])) ((most_reports + 1) * length (ahead input [])) (reports_of_if (Some next)) (reports_of_if (Some go))
     fewer (costs_searched s go next (ahead input []) e) (ap (λ (g : GoTaskView). reports_of_if (Some g)) e))
 
--- the searches that it ended are the first of the session
+-- the searches that a `go` has ended are the first of the session
 pub told_searched : {M : Type 0} (called : M → Call → M → Type 0) (old new : M) (s : State) (go next : GoTaskView) (go_task : Option GoTaskView) (ahead : List ℕ → List Line) → s.is_over ≡ false → go_task ≡ Some go → IsSameButForSearch go next
     → TellsEnded called old new (roots_of go) (roots_of next) → TellsEndedFor called old new (λ x. roots_unless_over s go_task (ahead x)) (λ x. roots_unless_over s (Some next) (ahead x))
 told_searched called old new s go next go_task ahead alive i e told =
@@ -333,12 +333,12 @@ told_searched called old new s go next go_task ahead alive i e told =
       told = told.told;
     })
 
--- what holds where nothing is returned holds together
+-- two consequences of `None` hold together
 pub both_none : (A B : Type 0) (result : Option ℕ) → IfNone result A → IfNone result B → IfNone result (A × B)
 both_none A B None a b = (a, b)
 both_none A B (Some n) a b = a
 
--- where no `go` runs and no line is ahead, nothing is pending
+-- if no `go` runs and no line is ahead, nothing is pending
 not_pending : (over : Bool) → (not over && false) ≡ true → ⊥
 not_pending true e = cc
 not_pending false e = cc
@@ -348,7 +348,7 @@ nothing_pending s idle none pending =
     not_pending s.state.is_over (ap (λ (lines : List Line). not s.state.is_over && (false || has_line lines)) (sym none)
     ∙ (ap (λ (o : Option GoTaskView). not s.state.is_over && (is_some o || has_line (ahead s.input []))) (sym idle) ∙ pending))
 
--- a session whose state and queue are the same is the same
+-- a session with equal state and queue is equal
 pub same_view : (s t : State) (queued more : List ℕ) (input : Buffer) (go_task : Option GoTaskView) → t ≡ s → more ≡ queued
     → ◌≡◌ {A = SessionView} (record { state = t; go_task = go_task; queued = more; input = input }) (record { state = s; go_task = go_task; queued = queued; input = input })
 same_view s t queued more input go_task e h = λ k. record { state = e k; go_task = go_task; queued = h k; input = input }
@@ -359,7 +359,7 @@ less_added new old k r t less fewer = omega arith
 ended_added : (x y k load r : ℕ) → x ≡ y → (0 + x) + (k + 0) < (load + y) + (k + (r + 1))
 ended_added x y k load r e = omega arith
 
--- a `go` that has reported a line has a turn less to take, and so has one that ended
+-- a `go` that reports a line, or ends, leaves a turn less
 pub fewer_reported : (s : State) (queued more : List ℕ) (input : Buffer) (go next : GoTaskView) (go_task : Option GoTaskView) → go_task ≡ Some go → next.go_request ≡ go.go_request → load_of next ≤ load_of go → reports_of next < reports_of go
     → turns (record { state = s; go_task = Some next; queued = more; input = input }) < turns (record { state = s; go_task = go_task; queued = queued; input = input })
 fewer_reported s queued more input go next go_task i q less fewer =
@@ -372,7 +372,7 @@ fewer_ended s next queued more input go go_task i h =
     rw i (ended_added (costs_from next (ahead input [])) (costs_from (rest_of_go s go).state (ahead input [])) ((most_reports + 1) * length (ahead input [])) (load_of go) (reports_of go)
     (ap (λ (t : State). costs_from t (ahead input [])) h.state_is))
 
--- a search that is not at its end has steps left
+-- a search with steps left has a load above 0
 some_added : (left x y : ℕ) → 0 < left → 0 < (left + x) + y
 some_added left x y some = omega arith
 
@@ -380,7 +380,7 @@ pub mid_load : (s : State) (go_task : Option GoTaskView) (ahead : List Line) →
 mid_load s None ahead mid = absurd mid
 mid_load s (Some go) ahead mid = some_added go.steps_left (load_after_search go) (costs_from (rest_of_go s go).state ahead) mid.1
 
--- the steps of a slice: those that were made, and those that are left of the budget and of the session
+-- the steps of a slice: those made, and those left of the budget and of the load
 pub made_on : (budget left old now made new : ℕ) → budget + now ≤ old + left → made ≤ left → made + new ≤ now → budget + new ≤ old + (left - made)
 made_on budget left old now made new before most h = omega arith
 

@@ -1,4 +1,4 @@
--- What a memory was told, one search after another.
+-- Calls of a memo over several searches.
 use Rattle.std.proofs.Common.{◌≡◌, ◌∙◌, ◌<◌, ◌<ℤ◌, ◌≤ℤ◌, ℕ, ℤ, List, [], ◌∷◌, ◌++◌, Option, Some, None, refl, sym, ap, subst, inl, inr, arith, append_assoc}
 use Rattle.std.specs.Option.{ForSome}
 use Rattle.std.proofs.lemmas.Int.{ints}
@@ -19,7 +19,7 @@ use Rattle.usi_session.specs.Roots.{Root, root_of}
 use Rattle.usi_session.specs.Walked.{IsUnder}
 use Rattle.usi_session.specs.Told.{AreTold, IsCalled, TellsEnded, TellsEndedFor, TellsValue, entry_of_root}
 
--- no call
+-- no call was made
 pub none_called : {M : Type 0} (called : M → Call → M → Type 0) (a : M) → IsCalled called a a
 none_called called a = record { calls = []; each = no_calls called a }
 
@@ -30,7 +30,7 @@ is_called_then called a b c first second = record {
   each = calls_and_calls called a b c first.calls second.calls first.each second.each;
 }
 
--- the last call comes after further ones
+-- the last call stays last after earlier ones
 ends_later : {M : Type 0} (called : M → Call → M → Type 0) (a b c : M) (call : Call)
     → IsCalled called a b → EndsWith called b c call → EndsWith called a c call
 ends_later called a b c call first last = record {
@@ -77,7 +77,7 @@ unfolding AreTold
 one_ended called a b root old new told e =
     record { ended = root ∷ []; left = e; told = (b, (told, none_called called b)) }
 
--- searches ended, and then further ones
+-- searches ended, then further ones
 pub ended_then_for : {M : Type 0} (called : M → Call → M → Type 0) (a b c : M) (x y z : List ℕ → List Root)
     → TellsEndedFor called a b x y → TellsEndedFor called b c y z → TellsEndedFor called a c x z
 ended_then_for called a b c x y z first second = record {
@@ -86,7 +86,7 @@ ended_then_for called a b c x y z first second = record {
   told = told_and_told called a b c first.ended second.ended first.told second.told;
 }
 
--- an entry that says what was found below the end of the whole window is the value with the best move
+-- an entry that is enough below the end of the whole window is the exact value with the best move
 whole_entry : (root : Root) (entry : Entry) (f : Found) → Says entry f → IsEnoughBelow INFINITY (Some entry)
     → f.value ≡ value root.position root.eval root.depth → f.best ≡ best root.position root.eval root.depth
     → f.value <ℤ INFINITY → entry ≡ entry_of_root root
@@ -99,7 +99,7 @@ whole_entry root (AtLeast v) f says enough is_value is_best below =
     absurd (omega (arith, ints))
 whole_entry root (AtMost v) f says enough is_value is_best below = absurd says
 
--- a search that has something left has not ended
+-- a search with steps left has not ended
 pub not_ended : (found result : Option Found) (old new : Progress) → ForSome found (λ f. (result ≡ Some f) × (new ≡ old))
     → new.left ≡ 0 → 0 < old.left → found ≡ None
 not_ended None result old new again over left = refl
@@ -136,7 +136,7 @@ called_at : {M : Type 0} (called : M → Call → M → Type 0) (a b : M) (root 
 called_at called a b root (inl note) = last_called called a b _ note
 called_at called a b root (inr probe) = last_called called a b _ probe
 
--- calls were made while they ended
+-- the calls that were made while searches ended
 pub called_after_told : {M : Type 0} (called : M → Call → M → Type 0) (a b : M) (roots : List Root)
     → AreTold called a roots b → IsCalled called a b
 unfolding AreTold

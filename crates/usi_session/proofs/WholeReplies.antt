@@ -32,11 +32,11 @@ last_byte-then : (before : ℕ) (xs ys : List ℕ) → last_byte before (xs ++ y
 last_byte-then before [] ys = refl
 last_byte-then before (x ∷ xs) ys = last_byte-then x xs ys
 
--- lines after lines are lines
+-- whole lines after whole lines are whole lines
 lines_then : (xs ys : List ℕ) → AreWholeLines xs → AreWholeLines ys → AreWholeLines (xs ++ ys)
 lines_then xs ys e f = last_byte-then LINE_FEED xs ys ∙ (ap (λ b. last_byte b ys) e ∙ f)
 
--- the last byte is LF, whatever stands before
+-- the last byte is LF, whatever comes before
 record EndsInLf (bytes : List ℕ) : Type 0 where
   pub ends : (before : ℕ) → last_byte before bytes ≡ LINE_FEED
 
@@ -151,25 +151,25 @@ answer_to-whole : (s : State) (line : Line) → AreWholeLines (answer_to s line)
 answer_to-whole s (Text text) = answer-whole s (command_of text)
 answer_to-whole s TooLong = refl
 
--- a line is answered at once, or nothing is said yet of the `go` that starts
+-- a line is answered at once with whole lines, or its `go` starts and nothing is written yet
 pub reply_whole : (s next : State) (reply : List ℕ) (go_task : Option GoTaskView) (line : Line) → with_rest reply next go_task ≡ (answer_to s line).bytes → OnSome go_task (reply ≡ []) → AreWholeLines reply
 reply_whole s next reply None line e quiet = ap (last_byte LINE_FEED) e ∙ answer_to-whole s line
 reply_whole s next reply (Some go) line e quiet = ap (last_byte LINE_FEED) quiet
 
--- a line is reported
+-- a reported line is whole
 pub reported_whole : (depths_done : List ℕ) → GrowsByLines [] depths_done → AreWholeLines depths_done
 reported_whole depths_done g = ap (last_byte LINE_FEED) g.after_is ∙ g.whole
 
--- the last line is reported, and the bestmove written or held
+-- the last line and the bestmove are whole lines
 pub end_whole : (s : State) (depths_done reply : List ℕ) (held : HeldBestmove) → GrowsByLines [] depths_done → reply ≡ depths_done ++ (write_or_hold s [] held held.until).bytes → AreWholeLines reply
 end_whole s depths_done reply held g f =
     ap (last_byte LINE_FEED) f ∙ lines_then depths_done (write_or_hold s [] held held.until).bytes (reported_whole depths_done g) (write_or_hold-whole s [] held held.until refl)
 
--- nothing came
+-- the queue grows by no lines
 pub grows_by_none : (queued : List ℕ) → GrowsByLines queued queued
 grows_by_none queued = record { lines = []; after_is = sym (append-nil queued); whole = refl }
 
--- one growth after another
+-- two growths make one
 pub grows_then : {a b c : List ℕ} → GrowsByLines a b → GrowsByLines b c → GrowsByLines a c
 grows_then {a} {b} {c} g h = record {
   lines = g.lines ++ h.lines;

@@ -20,14 +20,14 @@ use Rattle.usi_texts.specs.PositionCommand.{position_of_startpos, position_of_sf
 use Rattle.usi_session.specs.GoInfos.{move_to_play, move_to_ponder, go_infos}
 use Rattle.usi_texts.specs.Texts.{usi_reply, ready_reply, mate_not_implemented_reply, bad_position_line, illegal_move_line, bestmove_line}
 
--- What a bestmove is held until: `Nothing`, where it is written at once; `UntilStop`; `UntilHit`, which is until `ponderhit` or `stop`. The command `BadPosition` is a `position` line whose second word is missing, or is neither `startpos` nor `sfen`. The refusal `BadPosition` is for a line that begins with `position startpos` or `position sfen` and names no position; `rest` is what follows those two words. `Other` is a line that is no command, or a `setoption` that sets nothing.
+-- A bestmove is held until: `Nothing`, written at once; `UntilStop`; `UntilHit`, until `ponderhit` or `stop`. Command `BadPosition`: a `position` line whose second word is missing, or neither `startpos` nor `sfen`. Refusal `BadPosition`: a line that begins with `position startpos` or `position sfen` and names no position; `rest` is the text after these two words. `Other`: a line that is no command, or a `setoption` that sets nothing.
 
--- what is written, and the state after it
+-- an answer: the bytes written, and the state after them
 pub record Answer : Type 0 where
   pub state : State
   pub bytes : List ℕ
 
--- the answer of these bytes, with this state after it
+-- the answer with this state and these bytes
 abbrev pub answer_with : State → List ℕ → Answer
 answer_with state bytes = record { state = state; bytes = bytes }
 
@@ -41,7 +41,7 @@ initial_state_under setup = record {
   is_over = false;
 }
 
--- the same where nobody decides otherwise
+-- the state in which a session begins under the default setup
 abbrev pub initial_state : State
 initial_state = initial_state_under default_setup
 
@@ -50,17 +50,17 @@ pub record IsGiven (answer : Answer) (before after : List ℕ) (state : State) :
   pub bytes : after ≡ before ++ answer.bytes
   pub state_is : state ≡ answer.state
 
--- where it succeeds, the answer was given
+-- if the call succeeds, the answer was given
 abbrev pub Gives : {A E : Type 0} → Result (Unit {0}) E → Answer → Vec ℕ A → Vec ℕ A → State
     → Type 0
 Gives result answer before after state =
     OnOk result (IsGiven answer before.items after.items state)
 
--- the state, with no bestmove held any more
+-- the state without a held bestmove
 abbrev pub without_bestmove : State → State
 without_bestmove state = record state { held = None }
 
--- `position`: the position that was reached is taken; after a refusal the state stays, and one line says why
+-- `position`: the new position is taken; after a refusal the state stays, and one line says why
 abbrev pub answer_position : State → Result Shogi Refusal → Answer
 answer_position state (Ok position) = answer_with (record state { position = position }) []
 answer_position state (Err (refusals.BadPosition fault)) =
@@ -68,71 +68,71 @@ answer_position state (Err (refusals.BadPosition fault)) =
 answer_position state (Err (refusals.IllegalMove number)) =
     answer_with state (illegal_move_line number)
 
--- the bestmove of a pv, and what it is to be held until; also one that is written at once
+-- the bestmove of a pv, with what it is held until
 abbrev pub bestmove_of : List Move → Hold → HeldBestmove
 bestmove_of moves until =
     record { best = move_to_play moves; ponder = move_to_ponder moves; until = until }
 
--- the bestmove at a depth
+-- the bestmove of a search to this depth
 abbrev pub bestmove_at : Shogi → Eval → ℕ → Hold → HeldBestmove
 bestmove_at position eval depth until = bestmove_of (pv position eval depth) until
 
--- the line of a held bestmove
+-- the `bestmove` line of a held bestmove
 abbrev pub held_line : HeldBestmove → List ℕ
 held_line held = bestmove_line held.best held.ponder
 
--- the info lines are written, and then the bestmove, at once under `Nothing`; else it is held. One that was held before is dropped
+-- the info lines and, under `Nothing`, the bestmove are written; else the bestmove is held. One held before is dropped
 abbrev pub write_or_hold : State → List ℕ → HeldBestmove → Hold → Answer
 write_or_hold state infos held Nothing =
     answer_with (without_bestmove state) (infos ++ held_line held)
 write_or_hold state infos held UntilStop = answer_with (record state { held = Some held }) infos
 write_or_hold state infos held UntilHit = answer_with (record state { held = Some held }) infos
 
--- a bestmove alone, written or held as it says
+-- a bestmove is written or held, without info lines
 abbrev pub answer_bestmove : State → HeldBestmove → Answer
 answer_bestmove state held = write_or_hold state [] held held.until
 
--- `go` at a depth, by the evaluation and with at most as many lines as the options say: the whole depth is searched, also under `go infinite`, and what was held is dropped
+-- `go`: the whole depth is searched, even under `go infinite`, with the evaluation and the number of lines of the options; a bestmove held before is dropped
 abbrev pub answer_go : State → ℕ → Hold → Answer
 answer_go state depth hold =
     write_or_hold state (go_infos state.position state.options.eval state.options.multi_pv depth)
     (bestmove_at state.position state.options.eval depth hold) hold
 
--- `stop`: the held bestmove is written, and nothing is held any more; it cuts no search short
+-- `stop`: the held bestmove is written, and none is held afterwards; no search is cut short
 abbrev pub answer_stop : State → Option HeldBestmove → Answer
 answer_stop state None = answer_with state []
 answer_stop state (Some held) = answer_with (without_bestmove state) (held_line held)
 
--- `ponderhit` where a bestmove is held: written if it is held until `ponderhit`. Under `Nothing` none is ever held
+-- `ponderhit` with a held bestmove: written if held until `ponderhit`. None is ever held under `Nothing`
 abbrev pub answer_ponderhit_held : State → HeldBestmove → Hold → Answer
 answer_ponderhit_held state held UntilHit = answer_with (without_bestmove state) (held_line held)
 answer_ponderhit_held state held UntilStop = answer_with state []
 answer_ponderhit_held state held Nothing = answer_with state []
 
--- `ponderhit`: nothing where no bestmove is held
+-- `ponderhit`: without a held bestmove nothing is written
 abbrev pub answer_ponderhit : State → Option HeldBestmove → Answer
 answer_ponderhit state None = answer_with state []
 answer_ponderhit state (Some held) = answer_ponderhit_held state held held.until
 
--- the options are these from now on
+-- the options are replaced
 abbrev pub set_options : State → Options → Answer
 set_options state options = answer_with (record state { options = options }) []
 
--- a depth, held to the greatest one of the setup
+-- the depth, capped at the setup's greatest
 abbrev pub allowed_depth : State → ℕ → ℕ
 allowed_depth state depth = min depth state.setup.max_depth
 
--- the depth of a `go`: the one that it names, or else that of the options, held to the greatest one
+-- the depth of a `go`: its own, or else the option's, capped at the setup's greatest
 abbrev pub depth_of_go : State → Option ℕ → ℕ
 depth_of_go state depth = allowed_depth state (unwrap_or depth state.options.depth)
 
--- an evaluation that the setup offers is set; another one is passed over
+-- the evaluation is set if the setup offers it; otherwise nothing changes
 abbrev pub answer_eval : State → Eval → Answer
 answer_eval state eval =
     cond (offers state.setup eval) (set_options state (record state.options { eval = eval }))
     (answer_with state [])
 
--- the answer to each command; none changes the setup. A held bestmove stays after `usi`, `isready`, `setoption`, `position`, a line that is no command, and `ponderhit` where it is held until `stop`; each other command writes it or drops it
+-- the answer to each command; none changes the setup. A held bestmove stays after `usi`, `isready`, `setoption`, `position`, a line that is no command, and a `ponderhit` if it is held until `stop`. Each other command writes it or drops it
 abbrev pub answer : State → Command → Answer
 answer state Usi = answer_with state (usi_reply state.setup)
 answer state IsReady = answer_with state ready_reply

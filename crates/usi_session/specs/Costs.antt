@@ -1,4 +1,4 @@
--- The steps that the `go` lines among unread lines may cost.
+-- The most search steps of the `go` lines among unread lines.
 use Rattle.std.specs.Prelude.{ℕ, zero, suc, ◌+◌, ◌-◌, ◌*◌, ◌==◌, List, [], ◌∷◌, cond, sum_by}
 use Rattle.shogi_core.specs.Position.{Shogi}
 use Rattle.shogi_eval.specs.declared.eval.Eval.{Eval}
@@ -13,12 +13,12 @@ use Rattle.usi_session.specs.Answer.{depth_of_go}
 use Rattle.usi_session.specs.GoInfos.{listed}
 use Rattle.usi_session.specs.WholeStream.{answer_line}
 
--- the most search steps along the pvs of these moves, each with so many plies after the move
+-- the most search steps along the pvs of these moves, with this many plies after each move
 abbrev pub pvs_cost : Shogi → Eval → ℕ → List ℕ → ℕ
 pvs_cost position eval plies codes =
     sum_by (λ code. pv_cost (after_code position code) eval plies) codes
 
--- the most search steps of a depth: those along its pv, or with several lines those of the search after each legal move, and those along each pv listed
+-- the most search steps of a depth: with one line, those along its pv; with several, those of the search after each legal move and those along each listed pv
 abbrev pub depth_cost : Shogi → Eval → ℕ → ℕ → ℕ
 depth_cost position eval multi_pv depth =
     cond (multi_pv == 1) (pv_cost position eval depth)
@@ -31,25 +31,25 @@ cost_to_depth position eval multi_pv zero = 0
 cost_to_depth position eval multi_pv (suc depth) =
     cost_to_depth position eval multi_pv depth + depth_cost position eval multi_pv (suc depth)
 
--- the most steps of a `go` at a depth: the searches of its depths from the position where it stands
+-- the most search steps of a `go` to this depth in a state
 abbrev pub go_cost : State → ℕ → ℕ
 go_cost state depth = cost_to_depth state.position state.options.eval state.options.multi_pv depth
 
--- no command but `go` costs a step
+-- the most search steps of a command: none but `go` searches
 abbrev pub cost_of_command : State → Command → ℕ
 cost_of_command state (Go depth hold) = go_cost state (depth_of_go state depth)
 cost_of_command state _ = 0
 
--- what a line may cost in a session that is not over
+-- the most search steps of a line in a session that is not over
 abbrev pub cost_to : State → Line → ℕ
 cost_to state (Text text) = cost_of_command state (command_of text)
 cost_to state TooLong = 0
 
--- a session that is over answers nothing
+-- the most search steps of a line: none if the session is over
 abbrev pub cost_of_line : State → Line → ℕ
 cost_of_line state line = cond state.is_over 0 (cost_to state line)
 
--- the costs of the lines, one after another, from a state on
+-- the most search steps of these lines, answered in order from a state on
 unfoldable pub costs_from : State → List Line → ℕ
 costs_from state [] = 0
 costs_from state (line ∷ rest) =

@@ -9,53 +9,53 @@ use Rattle.minimax.specs.Minimax.{worth, pv, then_pv}
 use Rattle.shogi_search.specs.Ranked.{ranked_codes}
 use Rattle.usi_texts.specs.Texts.{info_line, numbered_info_text}
 
--- the move to play
+-- the move to play: the first of a pv
 abbrev pub move_to_play : List Move → Option Move
 move_to_play moves = slice_get moves 0
 
--- the reply to the move to play
+-- the reply to the move to play: the second move of a pv
 abbrev pub move_to_ponder : List Move → Option Move
 move_to_ponder moves = slice_get moves 1
 
--- the codes of the best moves at a depth of at least 1: as many as there are lines, or all that are legal
+-- the codes of the best moves at a depth of at least 1, at most as many as there are lines
 abbrev pub listed : Shogi → Eval → ℕ → ℕ → List ℕ
 listed position eval multi_pv depth = take multi_pv (ranked_codes position eval depth)
 
--- the move of a code, and the pv after it
+-- the pv that begins with the move of a code
 abbrev pub pv_by : Shogi → Eval → ℕ → ℕ → List Move
 pv_by position eval depth code = then_pv (λ next. pv next eval (depth - 1)) position (move_of code)
 
--- what is said of a listed move at a depth: its number, what it is worth, and its pv
+-- the info line of a listed move at a depth: its number, its worth and its pv
 abbrev pub numbered_line : Shogi → Eval → ℕ → ℕ → ℕ → List ℕ
 numbered_line position eval depth number code =
     numbered_info_text depth number (worth position eval (depth - 1) code)
     (pv_by position eval depth code)
 
--- what is said of each of these moves at a depth, numbered from a number on
+-- the info lines of these moves at a depth, numbered from `number` on
 unfoldable pub numbered_lines : Shogi → Eval → ℕ → ℕ → List ℕ → List ℕ
 numbered_lines position eval depth number [] = []
 numbered_lines position eval depth number (code ∷ rest) =
     numbered_line position eval depth number code
     ++ numbered_lines position eval depth (number + 1) rest
 
--- what is said of a position at a depth: its value and its pv, or with several lines each of the best moves
+-- the info lines of a depth: one with value and pv, or with several lines one for each listed move
 abbrev pub depth_lines : Shogi → Eval → ℕ → ℕ → List ℕ
 depth_lines position eval multi_pv depth =
     cond (multi_pv == 1) (info_line position eval depth)
     (numbered_lines position eval depth 1 (listed position eval multi_pv depth))
 
--- what is said of a position at each depth from 1 to the given one
+-- the info lines of each depth from 1 to this one
 unfoldable pub info_lines : Shogi → Eval → ℕ → ℕ → List ℕ
 info_lines position eval multi_pv zero = []
 info_lines position eval multi_pv (suc depth) =
     info_lines position eval multi_pv depth ++ depth_lines position eval multi_pv (suc depth)
 
--- the info lines, and none where no move is legal
+-- the info lines of a `go`, by its legal moves: none if there are none
 abbrev pub go_infos_where : Shogi → Eval → ℕ → ℕ → List ℕ → List ℕ
 go_infos_where position eval multi_pv depth [] = []
 go_infos_where position eval multi_pv depth (code ∷ codes) = info_lines position eval multi_pv depth
 
--- what is said of a position before the bestmove
+-- the info lines that a `go` writes before the bestmove
 abbrev pub go_infos : Shogi → Eval → ℕ → ℕ → List ℕ
 go_infos position eval multi_pv depth =
     go_infos_where position eval multi_pv depth (legal_codes position)

@@ -1,12 +1,12 @@
--- The fields of a running `go`: what callers see of them, and what holds of them (own choice).
+-- The fields of a running `go`: their view and their invariant (own choice).
 use Rattle.usi_session.specs.declared.go_task.GoTask.TheInside.{Inside}
 use Rattle.usi_session.specs.GoTaskView.{GoTaskView}
 use Rattle.usi_session.specs.Phases.{IsAtPhase, go_at}
 
--- what callers see of the fields
+-- a running `go` as callers see it, by its fields
 abbrev pub go_task_in : {A : Type 0} → Inside A → GoTaskView
 go_task_in g = go_at g.depth.go_request g.depth.done g.phase g.search.value
 
--- what holds of the fields
+-- the invariant of the fields
 abbrev pub IsGoTask : {A : Type 0} → Inside A → Type 0
 IsGoTask g = IsAtPhase g.depth.go_request g.depth.done g.phase g.bestmove g.search.value

@@ -1,4 +1,4 @@
--- A running `go`: what it still owes, and the steps that it may still make (own choice).
+-- A running `go`: the bytes that it still owes, and the most steps that it may still make (own choice).
 use Rattle.std.specs.Prelude.{◌≡◌, ◌≤◌, ℕ, zero, suc, ◌+◌, ◌-◌, ◌*◌, ◌==◌, List, [], ◌++◌, length, drop, Bool, true, false, OnSome, ◌||◌, ◌&&◌, cond, nat_lt, Option, Some, None, is_some, Result, IfOk, IfSome, Vec}
 use Rattle.shogi_core.specs.declared.moves.Move.{Move}
 use Rattle.shogi_core.specs.Position.{Shogi}
@@ -20,9 +20,11 @@ use Rattle.usi_session.specs.Told.{TellsEnded}
 use Rattle.usi_session.specs.Answer.{Answer, answer, answer_go, bestmove_at, write_or_hold, answer_with}
 use Rattle.usi_session.specs.WholeStream.{answer_to}
 
--- what was asked; how many depths are done, so that the current depth is the next one, and a move of it has as many plies after it; how many lines of the current depth are done;
--- with several lines the root move after which the position is searched for what the move is worth, and none where a pv is walked;
--- where one is walked, the position that its moves so far lead to, and the plies that are left of it; whether the current search has begun; and the steps that are left of it
+-- a running `go` as callers see it. `depths_done` is also the number of plies after a root move at
+-- the current depth; `lines_done` counts at that depth.
+-- `root_move` is the one whose child is searched for its worth, or none while a pv is walked.
+-- `walk_position` is the position after the walk's moves so far, `walk_plies` the plies left of it;
+-- `is_begun` and `steps_left` are of the current search
 pub record GoTaskView : Type 0 where
   pub go_request : GoRequest
   pub depths_done : ℕ
@@ -33,31 +35,31 @@ pub record GoTaskView : Type 0 where
   pub is_begun : Bool
   pub steps_left : ℕ
 
--- the moves that are listed at the current depth
+-- the moves listed at the current depth
 abbrev pub listed_at : GoRequest → ℕ → List ℕ
 listed_at go_request depths_done =
     listed go_request.position go_request.eval go_request.multi_pv (depths_done + 1)
 
--- what is still said of the current depth
+-- the info lines still to come at the current depth
 abbrev pub rest_of_depth : GoRequest → ℕ → ℕ → List ℕ
 rest_of_depth go_request depths_done lines_done =
     cond (go_request.multi_pv == 1) (info_line go_request.position go_request.eval (depths_done + 1))
     (numbered_lines go_request.position go_request.eval (depths_done + 1) (lines_done + 1)
     (drop lines_done (listed_at go_request depths_done)))
 
--- what is said of a position at each of so many depths above those that are done
+-- the info lines of the next depths, `more` of them, above those done
 unfoldable pub infos_of_depths : GoRequest → ℕ → ℕ → List ℕ
 infos_of_depths go_request depths_done zero = []
 infos_of_depths go_request depths_done (suc more) =
     depth_lines go_request.position go_request.eval go_request.multi_pv (depths_done + 1)
     ++ infos_of_depths go_request (depths_done + 1) more
 
--- what is said of the depths above the current one
+-- the info lines of the depths above the current one
 abbrev pub deeper_infos : GoRequest → ℕ → List ℕ
 deeper_infos go_request depths_done =
     infos_of_depths go_request (depths_done + 1) (go_request.depth - (depths_done + 1))
 
--- what is still said before the bestmove
+-- the info lines still to come before the bestmove
 abbrev pub infos_to_come : GoRequest → ℕ → ℕ → List ℕ
 infos_to_come go_request depths_done lines_done =
     rest_of_depth go_request depths_done lines_done ++ deeper_infos go_request depths_done
@@ -71,40 +73,40 @@ ends_depth go_request depths_done lines_done =
 abbrev pub is_last_of_depth : GoTaskView → Bool
 is_last_of_depth go = ends_depth go.go_request go.depths_done go.lines_done
 
--- whether it is the last one of the depth that was asked for
+-- whether the current line is the last one of the requested depth
 abbrev pub is_last : GoTaskView → Bool
 is_last go = is_last_of_depth go && go.depths_done + 1 == go.go_request.depth
 
--- what is said after the current line
+-- the info lines after the current one
 abbrev pub infos_after_line : GoRequest → ℕ → ℕ → List ℕ
 infos_after_line go_request depths_done lines_done =
     cond (ends_depth go_request depths_done lines_done) (deeper_infos go_request depths_done)
     (infos_to_come go_request depths_done (lines_done + 1))
 
--- what a running `go` still says before the bestmove
+-- the info lines that a running `go` has still to write
 abbrev pub infos_left : GoTaskView → List ℕ
 infos_left go = infos_to_come go.go_request go.depths_done go.lines_done
 
--- what it says before the bestmove once the current line is written
+-- the info lines that a running `go` has still to write after the current one
 abbrev pub infos_after : GoTaskView → List ℕ
 infos_after go = infos_after_line go.go_request go.depths_done go.lines_done
 
--- the current line was appended: what is still said after it was said with it before
+-- the current line was appended: with the lines after it, the bytes are those before and the lines that were left
 abbrev pub WritesLine : GoTaskView → List ℕ → List ℕ → Type 0
 WritesLine go before after = after ++ infos_after go ≡ before ++ infos_left go
 
--- of a question so many depths are done, and so many lines of the current one
+-- a `go` with this request has done this many depths, and this many lines of the current one
 pub record HasDone (go_request : GoRequest) (depths_done lines_done : ℕ) (go : GoTaskView)
     : Type 0 where
   pub question_is : go.go_request ≡ go_request
   pub depths_done_is : go.depths_done ≡ depths_done
   pub lines_done_is : go.lines_done ≡ lines_done
 
--- one line more of the current depth is done
+-- one more line of the current depth is done
 abbrev pub HasDoneLine : GoTaskView → GoTaskView → Type 0
 HasDoneLine old new = HasDone old.go_request old.depths_done (old.lines_done + 1) new
 
--- the same `go`, but for the search that is running, and where it stands on its walk
+-- the `go` is unchanged but for the current search and the walk's position
 abbrev pub IsSameButForSearch : GoTaskView → GoTaskView → Type 0
 IsSameButForSearch old new =
     new ≡ record old {
@@ -115,33 +117,33 @@ IsSameButForSearch old new =
       steps_left = new.steps_left;
     }
 
--- the bestmove at a depth of what was asked
+-- the bestmove of a request at this depth
 abbrev pub bestmove_to : GoRequest → ℕ → HeldBestmove
 bestmove_to go_request depth = bestmove_at go_request.position go_request.eval depth go_request.hold
 
--- the most steps for each of so many depths above those that are done
+-- the most steps of the next depths, `more` of them, above those done
 unfoldable pub cost_of_depths : GoRequest → ℕ → ℕ → ℕ
 cost_of_depths go_request depths_done zero = 0
 cost_of_depths go_request depths_done (suc more) =
     depth_cost go_request.position go_request.eval go_request.multi_pv (depths_done + 1)
     + cost_of_depths go_request (depths_done + 1) more
 
--- what a running `go` still says, and the state after it: by the question and what is done, and not by how far the search is
+-- the rest of a running `go`: the bytes still to come and the state after them, whatever its current search has done
 abbrev pub rest_of_go : State → GoTaskView → Answer
 rest_of_go state go =
     write_or_hold state (infos_left go) (bestmove_to go.go_request go.go_request.depth) go.go_request.hold
 
--- what the running `go` still says, and the state after it: nothing more, where none is running
+-- the rest of the `go`; without one, no bytes and the state as it is
 abbrev pub rest_of_go_if : State → Option GoTaskView → Answer
 rest_of_go_if state None = answer_with state []
 rest_of_go_if state (Some go) = rest_of_go state go
 
--- these bytes, and what the running `go` still says after them
+-- these bytes, followed by the rest of the `go`, if one is running
 abbrev pub with_rest : List ℕ → State → Option GoTaskView → List ℕ
 with_rest bytes state None = bytes
 with_rest bytes state (Some go) = bytes ++ (rest_of_go state go).bytes
 
--- the most steps along the pvs of the lines of the current depth from this one on
+-- the most steps along the pvs of the current depth's lines from line `lines_done` on
 abbrev pub lines_cost : GoRequest → ℕ → ℕ → ℕ
 lines_cost go_request depths_done lines_done =
     pvs_cost go_request.position go_request.eval depths_done
@@ -152,20 +154,20 @@ abbrev pub deeper_cost : GoRequest → ℕ → ℕ
 deeper_cost go_request depths_done =
     cost_of_depths go_request (depths_done + 1) (go_request.depth - (depths_done + 1))
 
--- the most steps of the searches after each root move above this one, and along each pv listed
+-- the most steps of the searches after each root move above this one, and along each listed pv
 abbrev pub root_moves_cost : GoRequest → ℕ → Move → ℕ
 root_moves_cost go_request depths_done root_move =
     4 * sum_of_tree_sizes go_request.position depths_done
     (legal_above go_request.position (Some root_move))
     + lines_cost go_request depths_done 0
 
--- the load that is left where the search of a root move has ended
+-- the load left after the search of a root move's child
 abbrev pub load_after_root_move : GoRequest → ℕ → Move → ℕ
 load_after_root_move go_request depths_done root_move =
     root_moves_cost go_request depths_done root_move + deeper_cost go_request depths_done
 
--- the most steps of the searches after the current one, at the current depth: after each further
--- move and along each pv listed, or along this pv and those listed behind it
+-- the most steps of the current depth after the current search: of each further root move and each
+-- listed pv, or of the rest of this pv and the pvs listed behind it
 abbrev pub depth_load_after_search : Option Move → GoTaskView → ℕ
 depth_load_after_search (Some root_move) go = root_moves_cost go.go_request go.depths_done root_move
 depth_load_after_search None go =
@@ -173,40 +175,39 @@ depth_load_after_search None go =
     (best go.walk_position go.go_request.eval go.walk_plies)
     + lines_cost go.go_request go.depths_done (go.lines_done + 1)
 
--- the most steps of all searches after the current one: those of its depth, and those of the
--- depths above
+-- the most steps after the current search: of its depth and of the depths above
 abbrev pub load_after_search : GoTaskView → ℕ
 load_after_search go =
     depth_load_after_search go.root_move go + deeper_cost go.go_request go.depths_done
 
--- the load of a running `go`, the most steps that it may still make: what is left of the current search, and those of the searches after it
+-- the load of a running `go`: the most steps that it may still make, in its current search and those after it
 abbrev pub load_of : GoTaskView → ℕ
 load_of go = go.steps_left + load_after_search go
 
--- the load of the running `go`: none, where none is running
+-- the load of the running `go`, or 0 if none is running
 abbrev pub load_of_if : Option GoTaskView → ℕ
 load_of_if None = 0
 load_of_if (Some go) = load_of go
 
--- the searches along the pvs of the lines of the current depth from this one on
+-- the searches along the pvs of the current depth's lines from line `lines_done` on
 abbrev pub lines_roots : GoRequest → ℕ → ℕ → List Root
 lines_roots go_request depths_done lines_done =
     pvs_roots go_request.position go_request.eval depths_done
     (drop lines_done (listed_at go_request depths_done))
 
--- all searches of a `go`, before its first depth
+-- the searches along pvs of a whole `go`
 abbrev pub first_roots : GoRequest → List Root
 first_roots go_request =
     roots_of_depths go_request.position go_request.eval go_request.multi_pv 0 go_request.depth
 
--- the searches of the depths above the current one
+-- the searches along pvs of the depths above the current one
 abbrev pub deeper_roots : GoRequest → ℕ → List Root
 deeper_roots go_request depths_done =
     roots_of_depths go_request.position go_request.eval go_request.multi_pv (depths_done + 1)
     (go_request.depth - (depths_done + 1))
 
--- the searches of the current depth that are still to end: those along each pv listed, or along
--- what is left of this pv and those listed behind it
+-- the searches along pvs still to end at the current depth: along each listed pv, or along the rest
+-- of this pv and the pvs listed behind it
 abbrev pub current_roots : Option Move → GoTaskView → List Root
 current_roots (Some root_move) go = lines_roots go.go_request go.depths_done 0
 current_roots None go =
@@ -217,27 +218,27 @@ current_roots None go =
 abbrev pub roots_of : GoTaskView → List Root
 roots_of go = current_roots go.root_move go ++ deeper_roots go.go_request go.depths_done
 
--- of the searches that a running `go` has still to end, a memory was told the first, and the others
--- are left to a later state of it
+-- of the searches that a `go` had still to end, the first have ended and the memo holds their
+-- values; the others are left
 abbrev pub EndsSearchesOfGo : {M : Type 0} → (M → Call → M → Type 0) → M → M → GoTaskView → GoTaskView
     → Type 0
 EndsSearchesOfGo called old new before after =
     TellsEnded called old new (roots_of before) (roots_of after)
 
--- none, where no `go` is running
+-- the searches along pvs that the running `go` has still to end, or none if none is running
 abbrev pub roots_of_if : Option GoTaskView → List Root
 roots_of_if None = []
 roots_of_if (Some go) = roots_of go
 
--- a search is running; where none is, the current pv is whole
+-- a search is running; otherwise the current pv is whole
 abbrev pub is_searching : GoTaskView → Bool
 is_searching go = is_some go.root_move || nat_lt 0 go.walk_plies
 
--- no fewer than the lines that a running `go` may still report
+-- an upper bound of the lines that a running `go` may still report
 abbrev pub reports_of : GoTaskView → ℕ
 reports_of go = MULTI_PV_MAX * (go.go_request.depth - go.depths_done) - go.lines_done
 
--- more than the lines that the running `go` may still report, and none where none is running
+-- one more than the bound of lines still to report, or 0 if no `go` is running
 abbrev pub reports_of_if : Option GoTaskView → ℕ
 reports_of_if None = 0
 reports_of_if (Some go) = reports_of go + 1
@@ -246,13 +247,13 @@ reports_of_if (Some go) = reports_of go + 1
 abbrev pub most_reports : ℕ
 most_reports = MULTI_PV_MAX * DEPTH_MAX + 1
 
--- a `go` that has just started has as many lines as the options say, and no search of it has begun
+-- a `go` that has just started has the options' number of lines, and its first search has not begun
 abbrev pub IsNewGo : State → GoTaskView → Type 0
 IsNewGo state go =
     (go.go_request.multi_pv ≡ state.options.multi_pv) × (go.is_begun ≡ false)
 
--- the answer was given, or its `go` was started: what was written and what that `go` still says
--- are the answer, and the `go` makes at most so many steps, in these searches
+-- the answer was given, or its `go` was started: the bytes written and those that the `go` still
+-- owes are the answer; the `go` makes at most `cost` steps, in these searches
 pub record IsBegun (answer : Answer) (cost : ℕ) (roots : List Root) (before after : List ℕ)
     (state : State) (go_task : Option GoTaskView) : Type 0 where
   pub bytes : with_rest after state go_task ≡ before ++ answer.bytes
@@ -263,7 +264,7 @@ pub record IsBegun (answer : Answer) (cost : ℕ) (roots : List Root) (before af
   pub quiet : OnSome go_task (after ≡ before)
   pub new_go : IfSome go_task (IsNewGo state)
 
--- where it succeeds, a `go` was started or answered at once
+-- if the call succeeds, a `go` was started or answered at once
 abbrev pub BeginsGo : {A E : Type 0} → State → ℕ → Hold → Vec ℕ A → Vec ℕ A → State
     → Result (Option GoTaskView) E → Type 0
 BeginsGo old depth hold before after new result =
@@ -271,7 +272,7 @@ BeginsGo old depth hold before after new result =
     (IsBegun (answer_go old depth hold) (go_cost old depth) (roots_of_go old depth)
     before.items after.items new)
 
--- where it succeeds, a command was answered, or its `go` was started
+-- if the call succeeds, a command was answered, or its `go` was started
 abbrev pub Answers : {A E : Type 0} → State → Command → Vec ℕ A → Vec ℕ A → State
     → Result (Option GoTaskView) E → Type 0
 Answers old command before after new result =
@@ -279,7 +280,7 @@ Answers old command before after new result =
     (IsBegun (answer old command) (cost_of_command old command) (roots_of_command old command)
     before.items after.items new)
 
--- the same of a line
+-- if the call succeeds, a line was answered, or its `go` was started
 abbrev pub AnswersLine : {A E : Type 0} → State → Line → Vec ℕ A → Vec ℕ A → State
     → Result (Option GoTaskView) E → Type 0
 AnswersLine old line before after new result =

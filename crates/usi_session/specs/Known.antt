@@ -1,4 +1,4 @@
--- Sessions that a memory has the answers for: no step is left to make (own choice).
+-- Sessions whose searches a memo already has the values for: no step is left to make (own choice).
 use Rattle.std.specs.Prelude.{◌≡◌, ◌<◌, ℕ, List, [], ◌∷◌, true, false, IfOk, IfSome, Option, Some, Result}
 use Rattle.std.specs.List.{AllByRecursion}
 use Rattle.shogi_core.specs.Position.{Shogi}
@@ -15,15 +15,15 @@ use Rattle.usi_session.specs.Roots.{Root}
 use Rattle.usi_session.specs.Walked.{Walked}
 use Rattle.usi_session.specs.WholeStream.{answer_line}
 
--- a memory that gives these answers has the value of the root
+-- a memo with these answers has the exact value of the root
 abbrev pub IsKnown : (Shogi → Eval → ℕ → Option Entry) → Root → Type 0
 IsKnown answers root = IsExactly (answers root.position root.eval root.depth)
 
--- and of each of these
+-- a memo with these answers has the exact value of each root
 abbrev pub AreKnown : (Shogi → Eval → ℕ → Option Entry) → List Root → Type 0
 AreKnown answers roots = AllByRecursion (IsKnown answers) roots
 
--- a memory answers after a question what it answered before
+-- a question does not change the memo's answers
 abbrev pub KeepsAnswers : {M : Type 0} → (M → Shogi → Eval → ℕ → Option Entry)
     → (M → Call → M → Type 0) → Type 0
 KeepsAnswers {M} answers called =
@@ -31,7 +31,7 @@ KeepsAnswers {M} answers called =
     → called old (Probe p e d answer) new
     → (q : Shogi) (f : Eval) (n : ℕ) → answers new q f n ≡ answers old q f n
 
--- the memory was asked one question, and nothing else
+-- the memo was asked one question, and nothing else
 pub record IsAsked {M : Type 0} (called : M → Call → M → Type 0) (old new : M) : Type 0 where
   pub position : Shogi
   pub eval : Eval
@@ -39,19 +39,19 @@ pub record IsAsked {M : Type 0} (called : M → Call → M → Type 0) (old new 
   pub answer : Option Entry
   pub question : called old (Probe position eval depth answer) new
 
--- a `go` with one line, of which no search is under way: what it searches next has not begun
+-- a `go` with one line that is between two searches: its next one has not begun
 abbrev pub IsBetweenSearches : GoTaskView → Type 0
 IsBetweenSearches go =
     (go.go_request.multi_pv ≡ 1) × (is_searching go ≡ true → go.is_begun ≡ false)
 
--- its next search took no step and asked one question
+-- the next search of a `go` took no step and asked one question
 pub record PassesSearch {M : Type 0} (called : M → Call → M → Type 0) (old new : M)
     (result : Option ℕ) (after : GoTaskView) : Type 0 where
   pub made : result ≡ Some 0
   pub asked : IsAsked called old new
   pub between : IsBetweenSearches after
 
--- a search along a walk took no step and asked one question, and the next one along it has not begun
+-- a search along a walk took no step and asked one question, and the next one along the walk has not begun
 pub record PassesRoot {M : Type 0} (called : M → Call → M → Type 0) (old new : M)
     (result : Option ℕ) (walk : Walked) (search : Progress) : Type 0 where
   pub made : result ≡ Some 0
@@ -64,7 +64,7 @@ HasOneLine state [] = state.options.multi_pv ≡ 1
 HasOneLine state (line ∷ rest) =
     (state.options.multi_pv ≡ 1) × HasOneLine (answer_line state line).state rest
 
--- all that a session has still to search is along pvs with one line, and a memory that gives these answers has the value of each root; no search is under way
+-- a session's searches are all known: no search is under way, all are along pvs with one line, and a memo with these answers has the value of each root
 pub record IsAllKnown (answers : Shogi → Eval → ℕ → Option Entry) (session : SessionView)
     : Type 0 where
   pub roots : AreKnown answers (roots_left session)
@@ -72,25 +72,25 @@ pub record IsAllKnown (answers : Shogi → Eval → ℕ → Option Entry) (sessi
   pub one_line :
       HasOneLine (rest_of_go_if session.state session.go_task).state (ahead session.input [])
 
--- what is known stays known, whatever gives the answers
+-- a session whose searches are all known to some answers is so afterwards
 abbrev pub StaysKnown : SessionView → SessionView → Type 0
 StaysKnown before after =
     (answers : Shogi → Eval → ℕ → Option Entry)
     → IsAllKnown answers before → IsAllKnown answers after
 
--- where all is known it stays so, and fewer turns are left
+-- known searches stay known, and fewer turns are left
 pub record TurnsOn (old new : SessionView) : Type 0 where
   pub known : StaysKnown old new
   pub fewer : turns new < turns old
 
--- where all is known to a memory, a turn that succeeds makes no step and leaves all known
+-- if all searches are known to the memo, a turn that succeeds makes no step, and they stay known
 abbrev pub TurnsKnown : {M E : Type 0} → (M → Shogi → Eval → ℕ → Option Entry)
     → (M → Call → M → Type 0) → M → M → Result (Option ℕ) E → SessionView → SessionView → Type 0
 TurnsKnown answers called old new result before after =
     KeepsAnswers answers called → IsAllKnown (answers old) before
     → IfOk result (λ made. (made ≡ Some 0) × IsAllKnown (answers new) after)
 
--- where all is known to a memory, no step is made and nothing is pending
+-- if all searches are known to the memo, a call that succeeds makes no step and leaves nothing pending
 abbrev pub TakesNoStep : {M E : Type 0} → (M → Shogi → Eval → ℕ → Option Entry)
     → (M → Call → M → Type 0) → M → Result ℕ E → SessionView → SessionView → Type 0
 TakesNoStep answers called memory result before after =

@@ -13,20 +13,20 @@ pub record AreDepths : Type 0 where
   pub greatest : DEPTH_MAX ≡ 16
   pub searched : SEARCH_DEPTH_MAX ≡ 16
 
--- best lines of a `go`
+-- numbers of lines of a `go` (MultiPV)
 pub record AreLines : Type 0 where
   pub least : MULTI_PV_MIN ≡ 1
   pub usual : MULTI_PV_DEFAULT ≡ 1
   pub greatest : MULTI_PV_MAX ≡ 8
 
--- bytes: of a line without its end, which is this one, of what is fed at once, and of a queue that is full
+-- bytes: the line end; the most of a line without it, and of one `feed`; and the queued bytes from which a session is full
 pub record AreBytes : Type 0 where
   pub line_end : LINE_FEED ≡ 10
   pub line : LINE_MAX ≡ 65535
   pub chunk : CHUNK_MAX ≡ 4096
   pub queue : QUEUE_FULL ≡ 65536
 
--- values: of a win, to which the plies that are left are added, and above all of them
+-- values: a win, to which the plies left are added, and the bound above all values
 pub record AreValues : Type 0 where
   pub mate : MATE ≡ pos 30000
   pub infinity : INFINITY ≡ pos 31000

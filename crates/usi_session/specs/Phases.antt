@@ -1,4 +1,4 @@
--- What a running `go` is at within a depth, and what is known then (own choice).
+-- The phase of a running `go` within a depth, and its invariant (own choice).
 use Rattle.std.specs.Prelude.{ℕ, [], Option, None, Some, ◌≡◌, ◌≢◌, ◌+◌, ◌<◌, ◌==◌, cond}
 use Rattle.shogi_core.specs.declared.moves.Move.{Move}
 use Rattle.shogi_moves.specs.After.{after}
@@ -14,7 +14,7 @@ use Rattle.usi_session.specs.declared.state.HeldBestmove.{HeldBestmove}
 use Rattle.usi_session.specs.GoTaskView.{GoTaskView, bestmove_to}
 use Rattle.usi_session.specs.Walked.{Walked, IsLine, IsRanked, IsRankedTo, IsSearchedAlong, IsUnder, running_go_of, walk_from}
 
--- the lines that are done, of one line none
+-- the number of lines done: 0 without a list
 abbrev pub lines_done_of : Option Listed → ℕ
 lines_done_of None = 0
 lines_done_of (Some listed) = listed.lines_done
@@ -23,29 +23,29 @@ abbrev pub lines_done_in : Phase → ℕ
 lines_done_in (AtMove child) = 0
 lines_done_in (AtLine line) = lines_done_of line.listed
 
--- the root move that is searched
+-- the root move whose child is searched
 abbrev pub root_move_in : Phase → Option Move
 root_move_in (AtMove child) = Some child.root_move
 root_move_in (AtLine line) = None
 
--- the walk, and before the first one a walk of no plies
+-- the walk; while root moves are ranked, one with no plies left
 abbrev pub walk_in : GoRequest → Phase → Walked
 walk_in go_request (AtMove child) = walk_from go_request.position go_request.eval 0
 walk_in go_request (AtLine line) = line.walk
 
--- what callers see of a running `go`
+-- a running `go` as callers see it, by its phase
 abbrev pub go_at : GoRequest → ℕ → Phase → Progress → GoTaskView
 go_at go_request depths_done phase search =
     running_go_of go_request depths_done (lines_done_in phase) (root_move_in phase)
     (walk_in go_request phase) search
 
--- with one line nothing is listed, with several all root moves are ranked
+-- with one line there is no list; with several, all root moves are ranked
 abbrev pub IsListed : GoRequest → ℕ → Option Listed → Type 0
 IsListed go_request depths_done None = go_request.multi_pv ≡ 1
 IsListed go_request depths_done (Some listed) =
     (go_request.multi_pv ≢ 1) × IsRanked go_request depths_done listed.ranks
 
--- the pv of the current line is walked
+-- the invariant of a walk along the pv of the current line
 pub record IsWalking (go_request : GoRequest) (depths_done : ℕ) (line : PvLine) (kept : HeldBestmove)
     (search : Progress) : Type 0 where
   pub line_is : IsLine go_request depths_done (lines_done_of line.listed) line.walk
@@ -53,8 +53,8 @@ pub record IsWalking (go_request : GoRequest) (depths_done : ℕ) (line : PvLine
   pub kept_is : 0 < lines_done_of line.listed → kept ≡ bestmove_to go_request (depths_done + 1)
   pub searched : IsSearchedAlong line.walk search
 
--- the position after a root move is searched for what the move is worth, below the bound that its
--- place in the list needs
+-- the invariant of ranking: the position after a root move is searched for the move's worth, below
+-- the bound that a place in the list needs
 pub record IsRanking (go_request : GoRequest) (depths_done : ℕ) (child : Child) (search : Progress)
     : Type 0 where
   pub several : go_request.multi_pv ≢ 1
@@ -63,7 +63,7 @@ pub record IsRanking (go_request : GoRequest) (depths_done : ℕ) (child : Child
       IsUnder search (after go_request.position child.root_move) go_request.eval depths_done
       (child_beta child.ranks)
 
--- what is known in a phase
+-- the invariant of a phase
 abbrev pub IsAtPhase : GoRequest → ℕ → Phase → HeldBestmove → Progress → Type 0
 IsAtPhase go_request depths_done (AtMove child) kept search =
     IsRanking go_request depths_done child search

@@ -1,4 +1,4 @@
--- A walk along a pv, ply by ply, and what a running `go` knows of the depth that it is at
+-- A walk along a pv, ply by ply, and what a running `go` knows of its current depth
 -- (own choice).
 use Rattle.std.specs.Prelude.{ℕ, ℤ, List, [], ◌∷◌, Option, None, Some, ◌≡◌, ◌+◌, ◌-◌, ◌<◌, ◌≤◌, ◌++◌, ◌==◌, ◌&&◌, Bool, true, cond, is_some, length, slice_get, unwrap_or}
 use Rattle.shogi_core.specs.Codes.{code_of}
@@ -20,8 +20,8 @@ use Rattle.usi_session.specs.GoInfos.{pv_by}
 use Rattle.usi_session.specs.Roots.{Root, pv_roots, then_pv_roots}
 use Rattle.usi_session.specs.GoTaskView.{GoTaskView, listed_at, lines_cost, lines_roots, current_roots}
 
--- the evaluation, the position after the moves so far, the plies that are left, and the whole pv
--- with its value
+-- a walk as callers see it: the evaluation, the position after the moves so far, the plies left,
+-- and the whole pv with its value
 pub record Walked : Type 0 where
   pub eval : Eval
   pub at : Shogi
@@ -29,7 +29,7 @@ pub record Walked : Type 0 where
   pub pv : List Move
   pub value : ℤ
 
--- the moves so far and those still to come, with the value once it is known
+-- the walk with these moves so far and these plies left; `found` is the value, once known
 abbrev pub walk_of : Eval → Shogi → ℕ → List Move → Option ℤ → Walked
 walk_of eval at plies moves found = record {
   eval = eval;
@@ -39,46 +39,46 @@ walk_of eval at plies moves found = record {
   value = unwrap_or found (value at eval plies);
 }
 
--- the moves so far and the plies that are left are no more than the greatest depth has, and where
--- none is left the value is known
+-- the invariant of a walk: its moves so far and the plies left are at most the greatest depth, and
+-- the value is known if no plies are left
 abbrev pub IsPvWalk : ℕ → List Move → Option ℤ → Type 0
 IsPvWalk plies moves found =
     (length moves + plies ≤ DEPTH_MAX) × (plies ≡ 0 → is_some found ≡ true)
 
--- before the first ply
+-- a walk before its first ply
 abbrev pub walk_from : Shogi → Eval → ℕ → Walked
 walk_from position eval plies = walk_of eval position plies [] None
 
--- after a move of known worth
+-- a walk after a first move of known worth
 abbrev pub walk_by : Move → Shogi → Eval → ℕ → ℤ → Walked
 walk_by played next eval plies worth = walk_of eval next plies (played ∷ []) (Some worth)
 
--- the most steps of the searches along a walk from where it stands
+-- the most steps of the searches along the rest of a walk
 abbrev pub walk_cost : Walked → ℕ
 walk_cost walk = pv_cost walk.at walk.eval walk.plies
 
--- the most steps of those after the one where it stands
+-- the most steps of the searches along a walk after its current position
 abbrev pub cost_after : Walked → ℕ
 cost_after walk =
     then_pv_cost (λ next. pv_cost next walk.eval (walk.plies - 1)) walk.at
     (best walk.at walk.eval walk.plies)
 
--- the searches along a walk from where it stands
+-- the searches along the rest of a walk
 abbrev pub walk_roots : Walked → List Root
 walk_roots walk = pv_roots walk.at walk.eval walk.plies
 
--- those after the one where it stands
+-- the searches along a walk after its current position
 abbrev pub roots_after : Walked → List Root
 roots_after walk =
     then_pv_roots (λ next. pv_roots next walk.eval (walk.plies - 1)) walk.at
     (best walk.at walk.eval walk.plies)
 
--- the depth and the number of lines lie in their ranges
+-- the depth and the number of lines are in their ranges
 pub record IsQuestionInRange (go_request : GoRequest) : Type 0 where
   pub depth_fits : IsDepth go_request.depth
   pub multi_pv_fits : IsMultiPv go_request.multi_pv
 
--- the first legal move after the one that was passed last
+-- `next` is the first legal move after `passed`
 abbrev pub IsNext : Shogi → Option Move → Move → Type 0
 IsNext position passed next =
     legal_above position passed ≡ code_of next ∷ legal_above position (Some next)
@@ -93,18 +93,18 @@ first_search go_request first depths_done =
     cond (go_request.multi_pv == 1) (untouched go_request.position go_request.eval (depths_done + 1))
     (untouched (after go_request.position first) go_request.eval depths_done)
 
--- the search after a root move, below the bound that its place in the list needs
+-- the search after a root move, below the bound that a place in the list needs
 abbrev pub child_search : GoRequest → ℕ → Move → Ranking → Progress
 child_search go_request depths_done root_move ranks =
     untouched_below (after go_request.position root_move) go_request.eval depths_done (child_beta ranks)
 
--- it was found by that search
+-- the result is that of a search after the root move
 abbrev pub IsFoundOfChild : GoRequest → ℕ → Move → Ranking → Found → Type 0
 IsFoundOfChild go_request depths_done root_move ranks found =
     IsFoundBelow (after go_request.position root_move) go_request.eval depths_done
     (child_beta ranks) found
 
--- what callers see of a running `go`
+-- a running `go` as callers see it, by its walk and its search
 abbrev pub running_go_of : GoRequest → ℕ → ℕ → Option Move → Walked → Progress → GoTaskView
 running_go_of go_request depths_done lines_done root_move walk search = record {
   go_request = go_request;
@@ -117,13 +117,13 @@ running_go_of go_request depths_done lines_done root_move walk search = record {
   steps_left = search.left;
 }
 
--- where the search of a root move has ended, the searches along each pv listed are still to end
+-- once the search of a root move's child has ended, the searches along each listed pv are still to end
 abbrev pub LeavesRoots : GoRequest → ℕ → Option Move → Walked → Progress → Type 0
 LeavesRoots go_request depths_done root_move walk search =
     current_roots root_move (running_go_of go_request depths_done 0 root_move walk search)
     ≡ lines_roots go_request depths_done 0
 
--- a search that is not at its end, for values below a bound
+-- a search of this position, with steps left, for values below a bound
 pub record IsUnder (search : Progress) (position : Shogi) (eval : Eval) (depth : ℕ) (beta : ℤ)
     : Type 0 where
   pub root : search.root ≡ position
@@ -132,19 +132,19 @@ pub record IsUnder (search : Progress) (position : Shogi) (eval : Eval) (depth :
   pub beta_is : search.beta ≡ beta
   pub left : 0 < search.left
 
--- where plies are left of a walk, the position where it stands is searched
+-- if plies are left of a walk, its position is searched
 abbrev pub IsSearchedAlong : Walked → Progress → Type 0
 IsSearchedAlong walk search = 0 < walk.plies → IsUnder search walk.at walk.eval walk.plies INFINITY
 
--- what a move is worth at the current depth, by its code
+-- the worth of a move at the current depth, by its code
 abbrev pub worth_at : GoRequest → ℕ → ℕ → ℤ
 worth_at go_request depths_done = worth go_request.position go_request.eval depths_done
 
--- a move ends a line and is settled, so that it is not worth what the search after it finds
+-- the root move is the last ply of its line and the evaluation resolves captures; its worth is then not its child's value
 abbrev pub is_settled : GoRequest → ℕ → Bool
 is_settled go_request depths_done = depths_done == 0 && resolves_captures go_request.eval
 
--- the legal moves up to the one that was passed last were ranked
+-- the legal moves up to `passed` are ranked
 pub record IsRankedUpTo (go_request : GoRequest) (depths_done : ℕ) (passed : Option Move)
     (ranks : Ranking) : Type 0 where
   pub seen : List ℕ
@@ -152,19 +152,19 @@ pub record IsRankedUpTo (go_request : GoRequest) (depths_done : ℕ) (passed : O
   pub top : IsTop (worth_at go_request depths_done) seen ranks
   pub most : ranks.lines ≡ go_request.multi_pv
 
--- all legal moves before this one were ranked
+-- all legal moves before this one are ranked
 pub record IsRankedTo (go_request : GoRequest) (depths_done : ℕ) (root_move : Move)
     (ranks : Ranking) : Type 0 where
   pub passed : Option Move
   pub next : IsNext go_request.position passed root_move
   pub ranked : IsRankedUpTo go_request depths_done passed ranks
 
--- all legal moves were ranked
+-- all legal moves are ranked
 pub record IsRanked (go_request : GoRequest) (depths_done : ℕ) (ranks : Ranking) : Type 0 where
   pub top : IsTop (worth_at go_request depths_done) (legal_codes go_request.position) ranks
   pub most : ranks.lines ≡ go_request.multi_pv
 
--- the walk is along the pv of the line of this number, from 0
+-- the walk is along the pv of line `lines_done`, counted from 0
 pub record IsLine (go_request : GoRequest) (depths_done lines_done : ℕ) (walk : Walked) : Type 0 where
   pub code : ℕ
   pub listed_as : slice_get (listed_at go_request depths_done) lines_done ≡ Some code
@@ -172,7 +172,7 @@ pub record IsLine (go_request : GoRequest) (depths_done lines_done : ℕ) (walk 
   pub value_is : walk.value ≡ worth_at go_request depths_done code
   pub eval_is : walk.eval ≡ go_request.eval
 
--- the walk has made the first move of that line, and the rest of it is all that it costs
+-- the walk has made the first move of line `lines_done`, and its cost and searches are those of the rest of the line
 pub record BeginsLine (go_request : GoRequest) (depths_done lines_done : ℕ) (walk : Walked)
     : Type 0 where
   pub line : IsLine go_request depths_done lines_done walk

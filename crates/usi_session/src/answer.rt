@@ -21,21 +21,21 @@ use usi_texts::{
     write_illegal_move, write_mate_not_implemented, write_usi,
 };
 
-/// A depth, held to the greatest one of the setup.
+/// The depth, capped at the setup's greatest.
 fn allowed_depth(state: &State, depth: u8) -> u8
     ensures { result ≡ allowed_depth state.now depth }
 {
     depth.min(state.setup.max_depth)
 }
 
-/// The depth of a `go`, which may name one.
+/// The depth of a `go`: its own, or else the option's, capped at the setup's greatest.
 fn depth_of_go(state: &State, depth: Option<u8>) -> u8
     ensures { result ≡ depth_of_go state.now depth }
 {
     allowed_depth(state, depth.unwrap_or(state.options.depth))
 }
 
-/// Sets an evaluation that is offered, and passes over another one.
+/// Sets the evaluation if the setup offers it; otherwise does nothing.
 fn answer_eval(state: &mut State, eval: Eval)
     ensures { state.new ≡ (answer_eval state.old eval).state }
 {
@@ -44,7 +44,7 @@ fn answer_eval(state: &mut State, eval: Eval)
     }
 }
 
-/// Takes the position that was reached, or says why there is none.
+/// Takes the new position, or writes why the command was refused and keeps the old one.
 fn answer_position<A: Allocator>(
     out: &mut Vec<u8, A>,
     state: &mut State,
@@ -62,7 +62,7 @@ fn answer_position<A: Allocator>(
     }
 }
 
-/// Writes a bestmove or holds it. What was held is dropped.
+/// Writes the bestmove, or holds it. A bestmove held before is dropped.
 pub fn write_or_hold<A: Allocator>(
     out: &mut Vec<u8, A>,
     state: &mut State,
@@ -80,7 +80,7 @@ pub fn write_or_hold<A: Allocator>(
     Ok(())
 }
 
-/// Starts a `go`; where no move is legal it is answered at once.
+/// Starts a `go`, or answers at once if no move is legal.
 fn answer_go<A: Allocator + Copy>(
     alloc: A,
     out: &mut Vec<u8, A>,
@@ -115,7 +115,7 @@ fn answer_go<A: Allocator + Copy>(
     Ok(Some(go_task))
 }
 
-/// Writes the held bestmove, if there is one, and holds nothing any more.
+/// Writes the held bestmove, if any, and holds none afterwards.
 fn answer_stop<A: Allocator>(out: &mut Vec<u8, A>, state: &mut State) -> Result<(), AllocError>
     ensures { Gives result (answer_stop state.old state.old.held) out.old out.new state.new }
 {
@@ -127,7 +127,7 @@ fn answer_stop<A: Allocator>(out: &mut Vec<u8, A>, state: &mut State) -> Result<
     Ok(())
 }
 
-/// Writes the bestmove that is held until `ponderhit`.
+/// Writes the held bestmove if `ponderhit` releases it.
 fn answer_ponderhit<A: Allocator>(out: &mut Vec<u8, A>, state: &mut State) -> Result<(), AllocError>
     ensures { Gives result (answer_ponderhit state.old state.old.held) out.old out.new state.new }
 {
@@ -186,7 +186,7 @@ pub fn answer<A: Allocator + Copy>(
     Ok(None)
 }
 
-/// Answers a line, or starts its `go`; one that is too long ends the session.
+/// Answers a line, or starts its `go`. A line that is too long ends the session.
 pub fn answer_line<A: Allocator + Copy>(
     alloc: A,
     out: &mut Vec<u8, A>,

@@ -1,4 +1,4 @@
-//! The depth that a running `go` is at.
+//! The current depth of a running `go`.
 
 ghost use Rattle.std.specs.Prelude.{◌<◌};
 ghost use Rattle.usi_session.specs.Walked.{IsQuestionInRange, IsFirst};
@@ -6,8 +6,8 @@ ghost use Rattle.usi_session.specs.Walked.{IsQuestionInRange, IsFirst};
 use crate::go_request::GoRequest;
 use shogi_core::Move;
 
-/// What is asked, the first legal move, and how many depths are done. The current depth is the next
-/// one: a root move of it has as many plies after it as there are depths done.
+/// The request, the first legal move, and the number of depths done. The current depth is `done +
+/// 1`; each root move has `done` plies after it.
 #[derive(Clone, Copy, Debug)]
 pub struct Depth {
     pub go_request: GoRequest,

@@ -1,11 +1,11 @@
-//! What a `go` asks.
+//! The request of a `go`.
 
 use shogi_core::Position;
 use shogi_eval::Eval;
 use usi_lines::Hold;
 
-/// What a `go` asks: of which position, by which evaluation, with how many lines, how deep, and
-/// what its bestmove is held until.
+/// The request of a `go`: position, evaluation, number of lines, depth in plies, and what its
+/// bestmove is held until.
 #[derive(Clone, Copy, Debug)]
 pub struct GoRequest {
     pub position: Position,

@@ -29,10 +29,10 @@ use std::mem::replace;
 use usi_lines::Hold;
 use usi_texts::{write_info, write_numbered_info};
 
-/// A running `go`. With one line it walks along the pv of each depth; with several it first
+/// A running `go`. With one line, it walks along the pv of each depth. With several, it first
 /// searches each child of the root, only as far as its move may still be listed, and ranks the
-/// moves, and then walks along the pv of each move that is listed. The search lies apart, since its
-/// stack is large.
+/// moves; then it walks along the pv of each listed move. The search is boxed because its stack is
+/// large.
 #[derive(Drop)]
 pub struct GoTask<A: Allocator> {
     depth: Depth,
@@ -54,14 +54,14 @@ impl<A: Allocator> Model for GoTask<A> {
     ghost invariant = { IsGoTask };
 }
 
-/// The move to play.
+/// The move to play: the first of the pv.
 fn move_to_play(moves: &[Move]) -> Option<Move>
     ensures { result ≡ move_to_play moves.now }
 {
     moves.first().copied()
 }
 
-/// The reply to the move to play.
+/// The reply to the move to play: the second move of the pv.
 fn move_to_ponder(moves: &[Move]) -> Option<Move>
     ensures { result ≡ move_to_ponder moves.now }
 {
@@ -79,7 +79,7 @@ fn bestmove_of(moves: &[Move], until: Hold) -> HeldBestmove
     }
 }
 
-/// What a depth begins with.
+/// The phase that a depth begins with.
 fn first_phase(depth: &Depth) -> Phase
     ensures { result ≡ first_phase depth.now.go_request depth.now.first depth.now.done }
 {
@@ -95,19 +95,19 @@ fn first_phase(depth: &Depth) -> Phase
     })
 }
 
-/// The second of these moves, and the first move of a pv.
+/// The second of `moves`, and the first move of a pv.
 fn shift_best(moves: &[Option<Move>; 2], walk: &PvWalk) -> [Option<Move>; 2]
     requires whole { walk.now.plies ≡ 0 }
 {
     [moves[1], move_to_play(walk.moves())]
 }
 
-/// The depth from which on a root visits first the best moves of the two depths before: at depth 4
-/// they save little of most searches, and cost some a third more.
+/// From this depth on, a search of the root visits the best moves of the two depths before first.
+/// At depth 4 they save little in most searches, and make some a third longer.
 const ADVISED_FROM: u8 = 5;
 
-/// Begins with the first search of a depth. With one line the root of a deep one visits these moves
-/// first.
+/// Sets up the first search of a depth. With one line, the root of a deep search visits
+/// `best_moves` first.
 fn start_depth(depth: &Depth, best_moves: &[Option<Move>; 2], search: &mut Search)
     ensures { search.new ≡ first_search depth.now.go_request depth.now.first depth.now.done }
 {
@@ -129,7 +129,7 @@ fn start_depth(depth: &Depth, best_moves: &[Option<Move>; 2], search: &mut Searc
     search.restart_below(&next, depth.go_request.eval, depth.done, INFINITY);
 }
 
-/// A walk along the pv of the line of this number, from 0, that has made its first move.
+/// A walk along the pv of line `lines_done`, counted from 0, after its first move.
 fn line_of(depth: &Depth, ranks: &Ranks, lines_done: u8) -> PvWalk
     requires ranked { IsRanked depth.now.go_request depth.now.done ranks.now }
     requires lines_done { lines_done < length (listed_at depth.now.go_request depth.now.done) }
@@ -143,7 +143,7 @@ fn line_of(depth: &Depth, ranks: &Ranks, lines_done: u8) -> PvWalk
     PvWalk::after(played, &next, depth.go_request.eval, depth.done, worth)
 }
 
-/// Searches the position where a walk stands, where plies are left.
+/// Sets up the search of the walk's position if plies are left.
 fn search_pv(walk: &PvWalk, search: &mut Search)
     ensures under { IsSearchedAlong walk.now search.new }
     ensures cost { search.new.left + cost_after walk.now ≤ search.old.left + walk_cost walk.now }
@@ -155,8 +155,8 @@ fn search_pv(walk: &PvWalk, search: &mut Search)
     }
 }
 
-/// Continues the search after a root move. A leaf is not worth a place in the memory, and is searched
-/// without it.
+/// Continues the search of a root move's child. A leaf is searched without the memo, as its value
+/// is not worth an entry.
 fn continue_search<M: Memo>(
     search: &mut Search,
     memo: &mut M,
@@ -179,9 +179,9 @@ fn continue_search<M: Memo>(
     search.advance(memo, budget)
 }
 
-/// Continues the search where a walk stands. Where it ends in at most so many steps, returns how many
-/// it made, and the next one along the walk is started, or its pv is whole. Otherwise all of the
-/// budget was used.
+/// Continues the search of the walk's position. If it ends within the budget, returns the steps it
+/// made and sets up the next search along the walk, unless the pv is whole. Otherwise returns
+/// `None`, with the budget used up.
 fn walk_on<M: Memo>(
     walk: &mut PvWalk,
     search: &mut Search,
@@ -215,7 +215,7 @@ fn walk_on<M: Memo>(
     Some(made)
 }
 
-/// Begins with the search of a child, once all legal moves before its own are ranked.
+/// Sets up the search of a child, once all legal moves before `root_move` are ranked.
 fn search_child(depth: &Depth, root_move: Move, ranks: &Ranks, search: &mut Search)
     requires ranked { IsRankedTo depth.now.go_request depth.now.done root_move ranks.now }
     ensures { search.new ≡ child_search depth.now.go_request depth.now.done root_move ranks.now }
@@ -226,16 +226,16 @@ fn search_child(depth: &Depth, root_move: Move, ranks: &Ranks, search: &mut Sear
     search.restart_below(&next, depth.go_request.eval, depth.done, ranks.child_beta());
 }
 
-/// Whether a move ends a line and is settled, so that it is not worth what the search of its child
-/// finds.
+/// Whether a root move is the last ply of its line and the evaluation resolves captures there; then
+/// its worth is not what a search of its child finds.
 fn is_settled(depth: &Depth) -> bool
     ensures { result ≡ is_settled depth.now.go_request depth.now.done }
 {
     depth.done == 0 && depth.go_request.eval.resolves_captures()
 }
 
-/// Ranks a move by what the search of its child found, or by what it is worth where it is settled. A
-/// value that is not below the bound ranks it behind a full list, and the list stays.
+/// Ranks a move by its child's value, or by its worth if that is settled without search. A value at
+/// or above the bound would rank behind a full list, so the move is left out.
 fn rank(depth: &Depth, root_move: Move, found: &Found, ranks: &mut Ranks)
     requires ranked { IsRankedTo depth.now.go_request depth.now.done root_move ranks.old }
     requires below { IsFoundOfChild depth.now.go_request depth.now.done root_move ranks.old found.now }
@@ -253,7 +253,8 @@ fn rank(depth: &Depth, root_move: Move, found: &Found, ranks: &mut Ranks)
     }
 }
 
-/// Takes the end of a root move's search: the next one is searched, or the first line is walked.
+/// Takes the result of a child's search: sets up the search of the next child, or the walk along
+/// the first line. `replace` moves the ranks out of `child`, which the caller drops.
 fn rank_child(depth: &Depth, child: &mut Child, found: &Found, search: &mut Search) -> Phase
     requires several { depth.now.go_request.multi_pv ≢ 1 }
     requires ranked { IsRankedTo depth.now.go_request depth.now.done
@@ -305,7 +306,7 @@ fn lines_done(line: &PvLine) -> u8
 }
 
 impl<A: Allocator> GoTask<A> {
-    /// A `go` at its first depth.
+    /// A `go` at its first depth. It fails if there is no memory for the boxed search.
     #[inline(never)]
     pub fn start(alloc: A, go_request: GoRequest, first: Move) -> Result<GoTask<A>, AllocError>
         requires go_request { IsQuestionInRange go_request }
@@ -340,8 +341,9 @@ impl<A: Allocator> GoTask<A> {
         })
     }
 
-    /// Continues the current search. Where it ends in at most so many steps, returns how many it
-    /// made, and the next one is started, or the pv is whole. Otherwise all of the budget was used.
+    /// Continues the current search. If it ends within the budget, returns the steps it made and
+    /// sets up the next search, unless the pv is whole. Otherwise returns `None`, with the budget
+    /// used up.
     pub fn advance<M: Memo>(&mut self, memo: &mut M, budget: u64) -> Option<u64>
         requires searching { is_searching self.old ≡ true }
         ensures unchanged { IsSameButForSearch self.old self.new }
@@ -371,7 +373,7 @@ impl<A: Allocator> GoTask<A> {
         }
     }
 
-    /// Reports the current line, once its pv is whole.
+    /// Writes the info line of the current line. `whole` rules out the early return.
     pub fn report<B: Allocator>(&self, out: &mut Vec<u8, B>) -> Result<(), AllocError>
         requires whole { is_searching self.now ≡ false }
         ensures rest { OnOk result (WritesLine self.now out.old.items out.new.items) }
@@ -399,7 +401,7 @@ impl<A: Allocator> GoTask<A> {
         }
     }
 
-    /// Whether the current line is the last one of its depth.
+    /// Whether the current line is the last one of its depth. `whole` rules out the early return.
     fn ends_depth(&self) -> bool
         requires whole { is_searching self.now ≡ false }
         ensures { result ≡ is_last_of_depth self.now }
@@ -413,7 +415,7 @@ impl<A: Allocator> GoTask<A> {
         }
     }
 
-    /// Whether the current line is the last one of the depth that was asked for.
+    /// Whether the current line is the last one of the requested depth.
     pub fn is_last(&self) -> bool
         requires whole { is_searching self.now ≡ false }
         ensures { result ≡ is_last self.now }
@@ -421,7 +423,8 @@ impl<A: Allocator> GoTask<A> {
         self.ends_depth() && self.depth.done + 1 == self.depth.go_request.depth
     }
 
-    /// The bestmove at the current depth.
+    /// The bestmove of the current depth: from the pv of its first line, kept while the others are
+    /// walked.
     fn current_bestmove(&self) -> HeldBestmove
         requires whole { is_searching self.now ≡ false }
         ensures { result ≡ bestmove_to self.now.go_request (self.now.depths_done + 1) }
@@ -435,7 +438,7 @@ impl<A: Allocator> GoTask<A> {
         self.bestmove
     }
 
-    /// Continues with the next line.
+    /// Continues with the next line. `whole` and `more` rule out the early returns.
     fn next_line(&mut self)
         requires whole { is_searching self.old ≡ false }
         requires more { is_last_of_depth self.old ≡ false }
@@ -461,7 +464,7 @@ impl<A: Allocator> GoTask<A> {
         self.bestmove = bestmove;
     }
 
-    /// Continues with the next depth.
+    /// Continues with the next depth. `whole` rules out the early return.
     fn next_depth(&mut self)
         requires whole { is_searching self.old ≡ false }
         requires more { self.old.depths_done + 1 ≢ self.old.go_request.depth }
@@ -493,7 +496,7 @@ impl<A: Allocator> GoTask<A> {
         self.depth = depth;
     }
 
-    /// Continues with the next line, or the next depth.
+    /// Continues with the next line, or with the next depth after the last line of one.
     pub fn next(&mut self)
         requires whole { is_searching self.old ≡ false }
         requires more { is_last self.old ≡ false }
@@ -511,7 +514,7 @@ impl<A: Allocator> GoTask<A> {
         }
     }
 
-    /// The bestmove at the depth that was asked for, once its last line is whole.
+    /// The bestmove of the requested depth, once its last line is whole.
     pub fn bestmove(&self) -> HeldBestmove
         requires whole { is_searching self.now ≡ false }
         requires last { is_last self.now ≡ true }

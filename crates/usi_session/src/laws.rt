@@ -1,9 +1,8 @@
-//! What follows of the definitions.
+//! Consequences of the definitions.
 
 ghost use Rattle.usi_session.specs.Numbers.{AreNumbers};
 
-/// The numbers that a front end meets are these, by whatever name the code and its definitions call
-/// them.
+/// The values of the numbers that a front end meets, stated apart from the constants' names.
 pub fn numbers()
     ensures { AreNumbers }
 {}

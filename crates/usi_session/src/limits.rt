@@ -1,7 +1,7 @@
-//! How much a session takes in, and how much may wait (own choice).
+//! Limits of a session's input and output (own choice).
 
-/// The most bytes that are fed at once.
+/// The most bytes of one `feed`.
 pub const CHUNK_MAX: usize = 4096;
 
-/// From how many queued bytes on a session wants no input.
+/// A session wants no input while this many bytes, or more, are queued.
 pub const QUEUE_FULL: usize = 65_536;

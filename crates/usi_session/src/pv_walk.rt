@@ -14,11 +14,11 @@ use shogi_search::Found;
 use std::marker::Model;
 use usi_lines::DEPTH_MAX;
 
-/// The most moves of a pv: one for each ply.
+/// The most moves of a pv: one per ply.
 const PV_MAX: usize = DEPTH_MAX as usize;
 
-/// A walk along a pv: the moves so far, the position after them, and the plies that are left. The
-/// value is known once the first search has ended, or from the start.
+/// A walk along a pv: the moves so far, the position after them, and the plies left. The value is
+/// known from the start, or once the first search has ended.
 #[derive(Drop)]
 pub struct PvWalk {
     eval: Eval,
@@ -39,7 +39,7 @@ impl Model for PvWalk {
 }
 
 impl PvWalk {
-    /// A walk that begins at a position, with so many plies to go.
+    /// A walk that begins at a position, with `plies` to go.
     pub fn new(p: &Position, eval: Eval, plies: u8) -> PvWalk
         requires some { 0 < plies }
         requires most { plies ≤ DEPTH_MAX }
@@ -54,8 +54,7 @@ impl PvWalk {
         }
     }
 
-    /// A walk that has made a move of known worth, with so many plies to go from the position after
-    /// it.
+    /// A walk that has made a move of known worth; `plies` are left after it.
     pub fn after(played: Move, next: &Position, eval: Eval, plies: u8, worth: i32) -> PvWalk
         requires most { plies < DEPTH_MAX }
         ensures { result ≡ walk_by played next.now eval plies worth }
@@ -71,8 +70,8 @@ impl PvWalk {
         }
     }
 
-    /// Steps one ply on, by what a search of the position where it stands found; where no move is
-    /// legal the pv is whole.
+    /// Advances one ply by the result of a search of the current position. If no move is legal, the
+    /// pv is whole.
     pub fn follow(&mut self, found: &Found)
         requires some { 0 < self.old.plies }
         requires value { found.now.value ≡ value self.old.at self.old.eval self.old.plies }
@@ -97,21 +96,21 @@ impl PvWalk {
         }
     }
 
-    /// The position where it stands.
+    /// The position after the moves so far.
     pub fn at(&self) -> &Position
         ensures { result.now ≡ self.now.at }
     {
         &self.at
     }
 
-    /// The evaluation.
+    /// The evaluation that the walk searches by.
     pub fn eval(&self) -> Eval
         ensures { result ≡ self.now.eval }
     {
         self.eval
     }
 
-    /// The plies that are left.
+    /// The plies left.
     pub fn plies(&self) -> u8
         ensures plies { result ≡ self.now.plies }
         ensures most { self.now.plies ≤ DEPTH_MAX }
@@ -127,7 +126,8 @@ impl PvWalk {
         self.moves.as_slice()
     }
 
-    /// Its value, once it is whole.
+    /// The value of the pv, once it is whole. It is known then, so 0 is never returned for a
+    /// missing one.
     pub fn value(&self) -> i32
         requires whole { self.now.plies ≡ 0 }
         ensures { result ≡ self.now.value }

@@ -1,4 +1,4 @@
-//! Bytes that wait until they are taken.
+//! Bytes queued until they are taken.
 
 ghost use Rattle.std.specs.Prelude.{◌≡◌, ◌≤◌, ◌++◌, [], OnOk, OnErr, drop, length};
 ghost use Rattle.usi_session.specs.declared.queue.TheConstants.{ROOM_KEPT};
@@ -7,11 +7,11 @@ use std::alloc::{AllocError, Allocator};
 use std::marker::Model;
 use usi_lines::give_back_room;
 
-/// The most room that is kept while nothing waits, in bytes.
+/// The most capacity kept while nothing is queued, in bytes.
 const ROOM_KEPT: usize = 4_096;
 
-/// The bytes that were written and not yet taken. While none wait, it keeps at most `ROOM_KEPT`
-/// bytes of room.
+/// Bytes written and not yet taken. While none are queued, at most `ROOM_KEPT` bytes of capacity
+/// are kept.
 #[derive(Drop)]
 pub struct Queue<A: Allocator> {
     bytes: Vec<u8, A>,
@@ -32,7 +32,7 @@ impl<A: Allocator> Model for Queue<A> {
 }
 
 impl<A: Allocator> Queue<A> {
-    /// Nothing written yet. It takes no memory.
+    /// An empty queue. It takes no memory.
     pub fn new(alloc: A) -> Queue<A>
         ensures { result ≡ [] }
     {
@@ -42,7 +42,7 @@ impl<A: Allocator> Queue<A> {
         }
     }
 
-    /// Appends the text; where allocation fails, nothing changes.
+    /// Appends the text. If allocation fails, nothing changes.
     pub fn push(&mut self, text: &[u8]) -> Result<(), AllocError>
         ensures ok { OnOk result (self.new ≡ self.old ++ text.now) }
         ensures err { OnErr result (self.new ≡ self.old) }
@@ -54,15 +54,15 @@ impl<A: Allocator> Queue<A> {
         self.bytes.extend_from_slice(text)
     }
 
-    /// The bytes that wait.
+    /// The queued bytes.
     pub fn as_slice(&self) -> &[u8]
         ensures { result.now ≡ self.now }
     {
         &self.bytes[self.taken..]
     }
 
-    /// Drops the first n bytes. What was taken is given up once it is more than half, and room with
-    /// it: fewer bytes are moved than were taken.
+    /// Drops the first n bytes. Once more than half of the buffer is taken, that part is drained
+    /// and spare capacity given back; each drain moves fewer bytes than were taken since the last.
     pub fn take(&mut self, n: usize)
         requires { n ≤ length self.old }
         ensures { self.new ≡ drop n self.old }

@@ -60,7 +60,8 @@ impl<A: Allocator + Copy> Model for Session<A> {
     ghost invariant = { λ s. AreInRange s.state.options };
 }
 
-/// Queues the answer to a line, or starts its `go`. Where allocation fails nothing changed.
+/// Queues the answer to a line, or starts its `go`. The reply and the next state are made apart, so
+/// nothing changes if allocation fails.
 fn queue_answer<A: Allocator + Copy>(
     alloc: A,
     line: Line<'_>,
@@ -83,7 +84,7 @@ fn queue_answer<A: Allocator + Copy>(
     Ok(go_task)
 }
 
-/// Queues the current line of a running `go`. Where allocation fails nothing changed.
+/// Queues the current line of a running `go`. If allocation fails, nothing changes.
 fn queue_line<A: Allocator + Copy>(
     alloc: A,
     go_task: &GoTask<A>,
@@ -99,8 +100,8 @@ fn queue_line<A: Allocator + Copy>(
     Ok(())
 }
 
-/// Queues the last line of a running `go`, and writes or holds its bestmove. Where allocation fails
-/// nothing changed.
+/// Queues the last line of a running `go`, and writes or holds its bestmove. If allocation fails,
+/// nothing changes.
 fn queue_end<A: Allocator + Copy>(
     alloc: A,
     go_task: &GoTask<A>,
@@ -124,8 +125,8 @@ fn queue_end<A: Allocator + Copy>(
 }
 
 impl<A: Allocator + Copy> Session<A> {
-    /// A session at its start, under the usual setup: Depth 3, the greatest depth 16, one line, by
-    /// the evaluation `Plain`. It takes no memory.
+    /// A new session under the usual setup: depth 3, greatest depth 16, one line, evaluation
+    /// `Plain`. It takes no memory.
     pub fn new(alloc: A) -> Session<A>
         ensures initial { result ≡ new_session }
         ensures due { (x : List ℕ) → due result x ≡ replies x }
@@ -134,8 +135,8 @@ impl<A: Allocator + Copy> Session<A> {
         Session::with_setup(alloc, Setup::new())
     }
 
-    /// A session at its start: the opening position, each option as the setup has it, nothing held.
-    /// It takes no memory.
+    /// A new session: the opening position, each option as the setup has it, no bestmove held. It
+    /// takes no memory.
     #[tactic(auto, using(usi_texts::proofs::SetupLaws::setup_in_range))]
     pub fn with_setup(alloc: A, setup: Setup) -> Session<A>
         ensures initial { result ≡ new_session_under setup }
@@ -158,7 +159,8 @@ impl<A: Allocator + Copy> Session<A> {
         }
     }
 
-    /// Stores the bytes, and answers nothing yet. On `OutOfMemory` nothing changed.
+    /// Stores at most `CHUNK_MAX` bytes, and answers none yet. After `OutOfMemory` nothing has
+    /// changed.
     pub fn feed(&mut self, chunk: &[u8]) -> Result<(), SessionFault>
         requires wants { wants_input self.old ≡ true }
         requires most { length chunk.now ≤ CHUNK_MAX }
@@ -176,7 +178,7 @@ impl<A: Allocator + Copy> Session<A> {
         }
     }
 
-    /// Answers the first unread line, or starts its `go`. Where allocation fails nothing changed.
+    /// Answers the first unread line, or starts its `go`. If allocation fails, nothing changes.
     fn answer_next(&mut self) -> Result<(), SessionFault>
         requires idle { self.old.go_task ≡ None }
         requires pending { is_pending self.old ≡ true }
@@ -194,7 +196,7 @@ impl<A: Allocator + Copy> Session<A> {
     }
 
     /// Reports the current line, once its pv is whole, and continues with the next line or ends the
-    /// `go`. Where allocation fails nothing changed.
+    /// `go`. If allocation fails, nothing changes.
     fn report_next(&mut self) -> Result<(), SessionFault>
         requires whole { IsPvWhole self.old.go_task }
         requires pending { is_pending self.old ≡ true }
@@ -215,9 +217,8 @@ impl<A: Allocator + Copy> Session<A> {
         Ok(())
     }
 
-    /// Makes steps of the current search, or what needs none: reports a line of the running `go`,
-    /// or answers an unread one. Returns how many steps were made, or nothing where the budget was
-    /// used up within a search.
+    /// Takes one turn: continues the current search, reports a line of the running `go`, or answers
+    /// an unread line. Returns the steps made, or `None` if the budget was used up within a search.
     fn work_once<M: Memo>(&mut self, memo: &mut M, budget: u64) -> Result<Option<u64>, SessionFault>
         requires pending { is_pending self.old ≡ true }
         ensures kept { KeepsDue self.old self.new }
@@ -247,11 +248,11 @@ impl<A: Allocator + Copy> Session<A> {
         }
     }
 
-    /// Answers the pending lines in order, with at most so many steps of search, and returns the
-    /// number of steps made. Where something is still pending the budget is used up, and a search
-    /// is running. On `OutOfMemory` what is owed stays as it was, and a later call continues; the
-    /// memo may have changed. Either way the queue has only grown, by whole lines. Where the memo knows
-    /// the value of each root along the pvs that are left, with one line, no step is made.
+    /// Answers the pending lines in order, with at most `budget` steps of search, and returns the
+    /// steps made. If something is still pending, the budget is used up and a search is running.
+    /// After `OutOfMemory` the session still owes the same replies, and a later call continues; the
+    /// memo may have changed. In either case the queue only grows, by whole lines. If the memo
+    /// knows each position still to be searched, and MultiPV is 1, no step is made.
     pub fn work<M: Memo>(&mut self, memo: &mut M, budget: u64) -> Result<u64, SessionFault>
         ensures due { (x : List ℕ) → due self.new x ≡ due self.old x }
         ensures after { (x : List ℕ) → state_due self.new x ≡ state_due self.old x }
@@ -275,22 +276,23 @@ impl<A: Allocator + Copy> Session<A> {
         Ok(budget - left)
     }
 
-    /// Whether it is alive and has a running `go` or an unread line. A held `bestmove` is not
-    /// pending.
+    /// Whether the session is alive and has a running `go` or an unread line. A held `bestmove` is
+    /// not pending.
     pub fn pending(&self) -> bool
         ensures { result ≡ is_pending self.now }
     {
         !self.state.is_over && (self.go_task.is_some() || self.input.has_line())
     }
 
-    /// Whether it may be fed: alive, nothing pending, and fewer than `QUEUE_FULL` bytes queued.
+    /// Whether the session may be fed: alive, nothing pending, and fewer than `QUEUE_FULL` bytes
+    /// queued.
     pub fn wants_input(&self) -> bool
         ensures { result ≡ wants_input self.now }
     {
         !self.state.is_over && !self.pending() && self.queue.as_slice().len() < QUEUE_FULL
     }
 
-    /// The queued bytes.
+    /// The queued bytes, which `take` drops.
     pub fn output(&self) -> &[u8]
         ensures { result.now ≡ self.now.queued }
     {
@@ -309,7 +311,7 @@ impl<A: Allocator + Copy> Session<A> {
         self.queue.take(n);
     }
 
-    /// Whether it has ended, after `quit` or a line that was too long.
+    /// Whether the session has ended, by `quit` or by a line that was too long.
     pub fn is_over(&self) -> bool
         ensures { result ≡ self.now.state.is_over }
     {

@@ -1,4 +1,4 @@
-//! What a session knows between two lines.
+//! The state of a session between two lines.
 
 use shogi_core::{Move, Position};
 use usi_lines::Hold;
@@ -12,8 +12,8 @@ pub struct HeldBestmove {
     pub until: Hold,
 }
 
-/// The position, the options, the setup, which no command changes, the held `bestmove`, and whether
-/// the session is over.
+/// The position, the options, the held `bestmove`, and whether the session is over. No command
+/// changes the setup.
 #[derive(Clone, Copy, Debug)]
 pub struct State {
     pub position: Position,

@@ -48,7 +48,7 @@ go_keeps s infos held Nothing = refl
 go_keeps s infos held UntilStop = refl
 go_keeps s infos held UntilHit = refl
 
--- an evaluation is set or passed over without a word
+-- setting an evaluation writes nothing
 eval_says : (s : State) (eval : Eval) (offered : Bool) → (cond offered (set_options s (record s.options { eval = eval })) (answer_with s [])).bytes ≡ []
 eval_says s eval true = refl
 eval_says s eval false = refl
@@ -62,7 +62,7 @@ eval_keeps : (s : State) (eval : Eval) (offered : Bool) → AreInRange s.options
 eval_keeps s eval true h = record { depth_fits = h.depth_fits; multi_pv_fits = h.multi_pv_fits }
 eval_keeps s eval false h = h
 
--- a depth that is held to the greatest one of a setup is in its range
+-- a depth capped at the setup's greatest is in its range
 allowed : (s : State) (depth : ℕ) → IsDepth depth → IsDepth (allowed_depth s depth)
 allowed s depth h =
     let greatest : IsDepth s.setup.max_depth = (in_order s.setup).max_depth_fits in

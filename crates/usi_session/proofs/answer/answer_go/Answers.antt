@@ -9,7 +9,7 @@ use Rattle.usi_session.proofs.RunningGoLaws.{begins-rest, cost_of_depths-all, qu
 use Rattle.usi_session.proofs.RootLaws.{roots_begun, roots_none}
 use Rattle.usi_session.proofs.answer.answer_go.Goals as goal
 
--- all depths are still to be said
+-- all depths are still to be reported
 pub returns-clause-begun : goal.returns-clause-begun
 returns-clause-begun g c =
     let go = c.in_ok-go_task.go_task in
@@ -24,7 +24,7 @@ returns-clause-begun g c =
       new_go = (ap (λ (q : GoRequest). q.multi_pv) c.in_ok-go_task.ensures.done.question_is, c.in_ok-go_task.ensures.fresh);
     }
 
--- no move is legal, and the pv is empty
+-- if no move is legal, the pv is empty
 pub returns-in_default-clause-begun : goal.returns-in_default-clause-begun
 returns-in_default-clause-begun g c =
     let none : legal_codes c.args.state.now.position ≡ [] = search rules in

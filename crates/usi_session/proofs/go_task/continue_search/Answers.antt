@@ -15,7 +15,7 @@ spent_of : (result : Option Found) (budget left most : ℕ) → IfNone result (l
 spent_of None budget left most h = let less : left + budget ≤ most = h in omega arith
 spent_of (Some f) budget left most h = h
 
--- a leaf is searched without the memory
+-- a leaf is searched without the memo
 pub returns-then-leaf-clause-calls : goal.returns-then-leaf-clause-calls
 returns-then-leaf-clause-calls g c = none_called _ _
 

@@ -20,7 +20,7 @@ returns-in_ok-found-in-AtMove-clause-told g c =
     rw (← c.self.view_is, c.in-AtMove.is)
     (none_ended _ _ _ _ _ c.continue_search.ensures.calls (ranking_roots s.depth.go_request s.depth.done c.in-AtMove.child c.rank_child-next.result s.search.value c.rank_child-next.new.search c.rank_child-next.ensures.none_done c.rank_child-next.ensures.roots))
 
--- a search that is answered ends at once
+-- a search that the memo answers ends at once
 pub returns-in-AtLine-clause-known : goal.returns-in-AtLine-clause-known
 returns-in-AtLine-clause-known g c =
     let s = c.self.inside in

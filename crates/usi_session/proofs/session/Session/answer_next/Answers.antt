@@ -21,7 +21,7 @@ returns-clause-kept g c =
       roots = roots_answered s.state c.queue_answer.new.state s.queue c.queue_answer.new.queue s.input c.drop_line.new.self s.go_task c.in_ok-go_task.go_task (line_of c.in-Some.line) pending idle first c.in_ok-go_task.ensures.answer;
     })
 
--- a line is there
+-- a line was read
 pub returns-in_default-clause-ok : goal.returns-in_default-clause-ok
 returns-in_default-clause-ok g c =
     let s = c.self.inside in
@@ -29,7 +29,7 @@ returns-in_default-clause-ok g c =
     let idle = ap (λ (t : SessionView). t.go_task) c.self.view_is ∙ c.requires.idle in
     absurd (nothing_pending (record { state = s.state; go_task = s.go_task; queued = s.queue; input = s.input }) idle (c.in_default.ensures.if_none.0 refl) pending)
 
--- nothing was queued: nothing changed
+-- if nothing was queued, nothing changed
 pub returns-in_err-go_task-clause-kept : goal.returns-in_err-go_task-clause-kept
 returns-in_err-go_task-clause-kept g c =
     let s = c.self.inside in

@@ -25,7 +25,7 @@ returns-clause-kept g c =
       roots = λ x. roots_ended s.state c.queue_end.new.state s.queue c.queue_end.new.queue c.in-Some.go_task s.go_task (ahead s.input x) (pending_alive (record { state = s.state; go_task = s.go_task; queued = s.queue; input = s.input }) (ap is_pending c.self.view_is ∙ c.requires.pending)) c.in-Some.is (search rules) (search rules) (search rules);
     })
 
--- nothing was queued: nothing changed
+-- if nothing was queued, nothing changed
 pub returns-in_err-queue_line-clause-kept : goal.returns-in_err-queue_line-clause-kept
 returns-in_err-queue_line-clause-kept g c =
     let s = c.self.inside in

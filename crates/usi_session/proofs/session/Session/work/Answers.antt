@@ -6,7 +6,7 @@ use Rattle.usi_session.proofs.WholeReplies.{grows_then}
 use Rattle.usi_session.proofs.TellsLaws.{ended_then_for, none_called, none_ended_for}
 use Rattle.usi_session.proofs.session.Session.work.Goals as goal
 
--- where all is known no step was made
+-- `Some` is injective
 some_of : (n m : ℕ) → Some n ≡ Some m → n ≡ m
 some_of n m e = cc
 
@@ -35,7 +35,7 @@ overflow_sub-left g c = rw c.in-Some.is at c.in_ok-made.ensures.most
 pub turns-smaller : goal.turns-smaller
 turns-smaller g c = rw c.in-Some.is at c.in_ok-made.ensures.fewer
 
--- a turn's lines come after those of the turns before
+-- the lines of a turn come after those of earlier turns
 pub turns-preserved : goal.turns-preserved
 turns-preserved g c =
     let most : c.in-Some.made ≤ c.turns.left = rw c.in-Some.is at c.in_ok-made.ensures.most in

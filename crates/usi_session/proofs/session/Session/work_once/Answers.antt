@@ -6,11 +6,11 @@ use Rattle.usi_session.specs.Due.{is_pending}
 use Rattle.usi_session.proofs.KnownLaws.{answers_kept, known_passed, known_running}
 use Rattle.usi_session.proofs.session.Session.work_once.Goals as goal
 
--- a search makes no more steps than it was given
+-- a search makes at most the steps of its budget
 pub returns-then-is_searching-clause-most : goal.returns-then-is_searching-clause-most
 returns-then-is_searching-clause-most g c = c.advance.ensures.most
 
--- where no search is running none ends
+-- without a running search, none ends
 pub returns-in_err-answer_next-in-None-clause-told : goal.returns-in_err-answer_next-in-None-clause-told
 returns-in_err-answer_next-in-None-clause-told g c = rw (← c.self.view_is) (none_ended_for _ _ _ _ _ (none_called _ _) c.answer_next.ensures.kept.roots)
 
@@ -54,7 +54,7 @@ returns-then-is_searching-clause-unfinished g c = both_none _ _ c.advance.result
 pub returns-then-is_searching-clause-capacity : goal.returns-then-is_searching-clause-capacity
 returns-then-is_searching-clause-capacity g c = c.advance.ensures.capacity
 
--- what needs no steps
+-- a turn without steps
 none_made : (left most : ℕ) → left ≤ most → 0 + left ≤ most
 none_made left most less = omega arith
 
@@ -82,7 +82,7 @@ returns-in_err-answer_next-in-None-clause-kept g c = rw (← c.self.view_is) c.a
 pub returns-in_err-report_next-in-Some-clause-kept : goal.returns-in_err-report_next-in-Some-clause-kept
 returns-in_err-report_next-in-Some-clause-kept g c = rw (← c.self.view_is, c.in-Some.is) c.report_next.ensures.kept.due
 
--- where all is known the search took no step
+-- if all searches are known, the search takes no step
 pub returns-then-is_searching-clause-known : goal.returns-then-is_searching-clause-known
 returns-then-is_searching-clause-known g c =
     let s = c.self.inside in
