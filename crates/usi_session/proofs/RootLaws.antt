@@ -1,4 +1,4 @@
--- The searches along pvs that a running `go` has still to end.
+-- The pv searches that a running `go` has still to end.
 use Rattle.std.proofs.Common.{◌≡◌, ◌∙◌, ◌<◌, ℕ, zero, suc, ◌+◌, ◌-◌, ◌==◌, List, [], ◌∷◌, ◌++◌, Bool, true, false, cond, Option, Some, None, refl, sym, ap, arith, append-nil, drop, length}
 use Rattle.std.specs.Prelude.{nat_lt, ◌||◌, is_some, slice_get}
 use Rattle.std.proofs.lemmas.Bool.{eqb-true, and_parts}
@@ -94,7 +94,7 @@ current_whole go None e =
     ap (λ (k : ℕ). pv_roots go.walk_position go.go_request.eval k ++ lines_roots go.go_request go.depths_done (go.lines_done + 1)) (not_above go.walk_plies e)
     ∙ ap (λ (roots : List Root). roots ++ lines_roots go.go_request go.depths_done (go.lines_done + 1)) (pv_roots-leaf go.walk_position go.go_request.eval)
 
--- once a pv is whole, the searches along the pvs behind it and of the depths above are left
+-- once a pv is whole, the pv searches behind it and of the depths above are left
 pub whole_roots : (go : GoTaskView) → is_searching go ≡ false
     → roots_of go ≡ lines_roots go.go_request go.depths_done (go.lines_done + 1) ++ deeper_roots go.go_request go.depths_done
 whole_roots go whole = ap (λ (roots : List Root). roots ++ deeper_roots go.go_request go.depths_done) (current_whole go go.root_move whole)

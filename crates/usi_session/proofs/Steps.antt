@@ -1,4 +1,4 @@
--- Answering one more line, or reporting one more line of a `go`.
+-- Answering a line more, or reporting a line more of a `go`.
 use Rattle.std.proofs.Common.{◌≡◌, ℕ, ◌+◌, ◌-◌, ◌*◌, ◌<◌, ◌≤◌, List, [], ◌∷◌, ◌++◌, length, refl, sym, ap, ◌∙◌, arith, append_assoc, append-nil, true, false, Bool, Option, Some, None, cond}
 use Rattle.std.specs.Prelude.{IfNone, IfSome, OnSome, not, ◌&&◌, ◌||◌, is_some}
 use Rattle.usi_lines.specs.Lines.{ahead, Buffer}

@@ -45,12 +45,12 @@ initial_state_under setup = record {
 abbrev pub initial_state : State
 initial_state = initial_state_under default_setup
 
--- the answer was given: its bytes were appended, and the state is the one after it
+-- the answer was given: its bytes were appended, and its state taken
 pub record IsGiven (answer : Answer) (before after : List ℕ) (state : State) : Type 0 where
   pub bytes : after ≡ before ++ answer.bytes
   pub state_is : state ≡ answer.state
 
--- if the call succeeds, the answer was given
+-- on success, the answer was given
 abbrev pub Gives : {A E : Type 0} → Result (Unit {0}) E → Answer → Vec ℕ A → Vec ℕ A → State
     → Type 0
 Gives result answer before after state =
@@ -92,7 +92,7 @@ write_or_hold state infos held UntilHit = answer_with (record state { held = Som
 abbrev pub answer_bestmove : State → HeldBestmove → Answer
 answer_bestmove state held = write_or_hold state [] held held.until
 
--- `go`: the whole depth is searched, even under `go infinite`, with the evaluation and the number of lines of the options; a bestmove held before is dropped
+-- `go`: the whole depth is searched, even under `go infinite`, by the options' evaluation and number of lines; a bestmove held before is dropped
 abbrev pub answer_go : State → ℕ → Hold → Answer
 answer_go state depth hold =
     write_or_hold state (go_infos state.position state.options.eval state.options.multi_pv depth)
@@ -132,7 +132,7 @@ answer_eval state eval =
     cond (offers state.setup eval) (set_options state (record state.options { eval = eval }))
     (answer_with state [])
 
--- the answer to each command; none changes the setup. A held bestmove stays after `usi`, `isready`, `setoption`, `position`, a line that is no command, and a `ponderhit` if it is held until `stop`. Each other command writes it or drops it
+-- the answer to each command; none changes the setup. A held bestmove survives `usi`, `isready`, `setoption`, `position`, a line that is no command, and `ponderhit` if held until `stop`; each other command writes or drops it
 abbrev pub answer : State → Command → Answer
 answer state Usi = answer_with state (usi_reply state.setup)
 answer state IsReady = answer_with state ready_reply

@@ -14,7 +14,7 @@ use Rattle.usi_session.specs.Told.{TellsEndedFor}
 use Rattle.usi_session.specs.WholeLines.{AreWholeLines, GrowsByLines}
 use Rattle.usi_session.specs.declared.limits.TheConstants.{QUEUE_FULL}
 
--- a session as callers see it: the state after the answered lines, the running `go`, the replies not yet taken, and the bytes fed but not yet answered
+-- the view of a session: the state after the answered lines, the running `go`, the replies not yet taken, and the bytes fed but not yet answered
 pub record SessionView : Type 0 where
   pub state : State
   pub go_task : Option GoTaskView
@@ -30,7 +30,7 @@ abbrev pub owed : State → Option GoTaskView → List Line → List ℕ
 owed state go_task ahead =
     cond state.is_over [] (owed_after (rest_of_go_if state go_task) ahead)
 
--- the bytes that a session owes once these further bytes are fed: its queue, the rest of its `go`, and the replies to the lines ahead
+-- the debt once these further bytes are fed: the queue, the rest of the `go`, and the replies to the lines ahead
 abbrev pub due : SessionView → List ℕ → List ℕ
 due session further =
     session.queued ++ owed session.state session.go_task (ahead session.input further)
@@ -45,30 +45,30 @@ abbrev pub IsSameAfter : {A : Type 0} → (SessionView → List ℕ → A) → L
     → SessionView → Type 0
 IsSameAfter what chunk old new = (x : List ℕ) → what new x ≡ what old (chunk ++ x)
 
--- the most steps still to be made for the running `go` and for each `go` in these lines
+-- the most steps still to be made, for the running `go` and each `go` in these lines
 abbrev pub load_ahead : State → Option GoTaskView → List Line → ℕ
 load_ahead state go_task ahead =
     load_of_if go_task + costs_from (rest_of_go_if state go_task).state ahead
 
--- the load of a session: the most steps still to be made for its running `go` and its unread lines
+-- the load: the most steps still to be made, for the running `go` and the unread lines
 abbrev pub load : SessionView → ℕ
 load session = load_ahead session.state session.go_task (ahead session.input [])
 
--- the searches along pvs still to end: of the running `go`, and of each `go` in these lines
+-- the pv searches still to end: of the running `go`, and of each `go` in these lines
 abbrev pub roots_ahead : State → Option GoTaskView → List Line → List Root
 roots_ahead state go_task ahead =
     roots_of_if go_task ++ roots_from (rest_of_go_if state go_task).state ahead
 
--- the searches along pvs still to end: none if the session is over
+-- the pv searches still to end: none if the session is over
 abbrev pub roots_unless_over : State → Option GoTaskView → List Line → List Root
 roots_unless_over state go_task ahead = cond state.is_over [] (roots_ahead state go_task ahead)
 
--- the searches along pvs still to end once these further bytes are fed
+-- the pv searches still to end once these further bytes are fed
 abbrev pub roots_due : SessionView → List ℕ → List Root
 roots_due session further =
     roots_unless_over session.state session.go_task (ahead session.input further)
 
--- the searches along pvs still to end with the bytes fed so far
+-- the pv searches still to end with the bytes fed so far
 abbrev pub roots_left : SessionView → List Root
 roots_left session = roots_due session []
 
@@ -90,12 +90,12 @@ pub record KeepsDue (old new : SessionView) : Type 0 where
   pub load_most : load new ≤ load old
   pub grown : GrowsByLines old.queued new.queued
 
--- the replies owed and the searches still to end are unchanged
+-- the debt and the searches still to end are unchanged
 pub record KeepsAll (old new : SessionView) : Type 0 where
   pub due : KeepsDue old new
   pub roots : KeepsRoots old new
 
--- the answer to a line was queued, and the state is the one after it; or its `go` was started
+-- the answer to a line was queued and its state taken, or its `go` was started
 pub record QueuesAnswer (old : State) (line : Line) (new : State) (before after : List ℕ)
     (go_task : Option GoTaskView) : Type 0 where
   pub reply : List ℕ
@@ -112,7 +112,7 @@ pub record QueuesLine (go : GoTaskView) (before after : List ℕ) : Type 0 where
   pub writes : WritesLine go [] line
   pub whole : AreWholeLines line
 
--- all that a running `go` still says was queued, and the state is the one after it
+-- the rest of a running `go` was queued, and its state taken
 pub record QueuesEnd (go : GoTaskView) (old new : State) (before after : List ℕ) : Type 0 where
   pub after_end : after ≡ before ++ (rest_of_go old go).bytes
   pub state_is : new ≡ (rest_of_go old go).state

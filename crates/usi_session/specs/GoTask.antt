@@ -3,7 +3,7 @@ use Rattle.usi_session.specs.declared.go_task.GoTask.TheInside.{Inside}
 use Rattle.usi_session.specs.GoTaskView.{GoTaskView}
 use Rattle.usi_session.specs.Phases.{IsAtPhase, go_at}
 
--- a running `go` as callers see it, by its fields
+-- the view of a running `go`, by its fields
 abbrev pub go_task_in : {A : Type 0} → Inside A → GoTaskView
 go_task_in g = go_at g.depth.go_request g.depth.done g.phase g.search.value
 

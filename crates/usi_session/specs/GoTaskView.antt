@@ -20,7 +20,7 @@ use Rattle.usi_session.specs.Told.{TellsEnded}
 use Rattle.usi_session.specs.Answer.{Answer, answer, answer_go, bestmove_at, write_or_hold, answer_with}
 use Rattle.usi_session.specs.WholeStream.{answer_to}
 
--- a running `go` as callers see it. `depths_done` is also the number of plies after a root move at
+-- the view of a running `go`. `depths_done` is also the number of plies after a root move at
 -- the current depth; `lines_done` counts at that depth.
 -- `root_move` is the one whose child is searched for its worth, or none while a pv is walked.
 -- `walk_position` is the position after the walk's moves so far, `walk_plies` the plies left of it;
@@ -102,7 +102,7 @@ pub record HasDone (go_request : GoRequest) (depths_done lines_done : ℕ) (go :
   pub depths_done_is : go.depths_done ≡ depths_done
   pub lines_done_is : go.lines_done ≡ lines_done
 
--- one more line of the current depth is done
+-- a line more of the current depth is done
 abbrev pub HasDoneLine : GoTaskView → GoTaskView → Type 0
 HasDoneLine old new = HasDone old.go_request old.depths_done (old.lines_done + 1) new
 
@@ -189,24 +189,24 @@ abbrev pub load_of_if : Option GoTaskView → ℕ
 load_of_if None = 0
 load_of_if (Some go) = load_of go
 
--- the searches along the pvs of the current depth's lines from line `lines_done` on
+-- the pv searches of the current depth's lines from line `lines_done` on
 abbrev pub lines_roots : GoRequest → ℕ → ℕ → List Root
 lines_roots go_request depths_done lines_done =
     pvs_roots go_request.position go_request.eval depths_done
     (drop lines_done (listed_at go_request depths_done))
 
--- the searches along pvs of a whole `go`
+-- the pv searches of a whole `go`
 abbrev pub first_roots : GoRequest → List Root
 first_roots go_request =
     roots_of_depths go_request.position go_request.eval go_request.multi_pv 0 go_request.depth
 
--- the searches along pvs of the depths above the current one
+-- the pv searches of the depths above the current one
 abbrev pub deeper_roots : GoRequest → ℕ → List Root
 deeper_roots go_request depths_done =
     roots_of_depths go_request.position go_request.eval go_request.multi_pv (depths_done + 1)
     (go_request.depth - (depths_done + 1))
 
--- the searches along pvs still to end at the current depth: along each listed pv, or along the rest
+-- the pv searches still to end at the current depth: along each listed pv, or along the rest
 -- of this pv and the pvs listed behind it
 abbrev pub current_roots : Option Move → GoTaskView → List Root
 current_roots (Some root_move) go = lines_roots go.go_request go.depths_done 0
@@ -214,7 +214,7 @@ current_roots None go =
     pv_roots go.walk_position go.go_request.eval go.walk_plies
     ++ lines_roots go.go_request go.depths_done (go.lines_done + 1)
 
--- the searches along pvs that a running `go` has still to end
+-- the pv searches that a running `go` has still to end
 abbrev pub roots_of : GoTaskView → List Root
 roots_of go = current_roots go.root_move go ++ deeper_roots go.go_request go.depths_done
 
@@ -225,7 +225,7 @@ abbrev pub EndsSearchesOfGo : {M : Type 0} → (M → Call → M → Type 0) →
 EndsSearchesOfGo called old new before after =
     TellsEnded called old new (roots_of before) (roots_of after)
 
--- the searches along pvs that the running `go` has still to end, or none if none is running
+-- the pv searches that the running `go` has still to end, or none if none is running
 abbrev pub roots_of_if : Option GoTaskView → List Root
 roots_of_if None = []
 roots_of_if (Some go) = roots_of go
@@ -264,7 +264,7 @@ pub record IsBegun (answer : Answer) (cost : ℕ) (roots : List Root) (before af
   pub quiet : OnSome go_task (after ≡ before)
   pub new_go : IfSome go_task (IsNewGo state)
 
--- if the call succeeds, a `go` was started or answered at once
+-- on success, a `go` was started or answered at once
 abbrev pub BeginsGo : {A E : Type 0} → State → ℕ → Hold → Vec ℕ A → Vec ℕ A → State
     → Result (Option GoTaskView) E → Type 0
 BeginsGo old depth hold before after new result =
@@ -272,7 +272,7 @@ BeginsGo old depth hold before after new result =
     (IsBegun (answer_go old depth hold) (go_cost old depth) (roots_of_go old depth)
     before.items after.items new)
 
--- if the call succeeds, a command was answered, or its `go` was started
+-- on success, a command was answered, or its `go` was started
 abbrev pub Answers : {A E : Type 0} → State → Command → Vec ℕ A → Vec ℕ A → State
     → Result (Option GoTaskView) E → Type 0
 Answers old command before after new result =
@@ -280,7 +280,7 @@ Answers old command before after new result =
     (IsBegun (answer old command) (cost_of_command old command) (roots_of_command old command)
     before.items after.items new)
 
--- if the call succeeds, a line was answered, or its `go` was started
+-- on success, a line was answered, or its `go` was started
 abbrev pub AnswersLine : {A E : Type 0} → State → Line → Vec ℕ A → Vec ℕ A → State
     → Result (Option GoTaskView) E → Type 0
 AnswersLine old line before after new result =

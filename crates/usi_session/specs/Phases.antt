@@ -33,7 +33,7 @@ abbrev pub walk_in : GoRequest → Phase → Walked
 walk_in go_request (AtMove child) = walk_from go_request.position go_request.eval 0
 walk_in go_request (AtLine line) = line.walk
 
--- a running `go` as callers see it, by its phase
+-- the view of a running `go`, by its phase
 abbrev pub go_at : GoRequest → ℕ → Phase → Progress → GoTaskView
 go_at go_request depths_done phase search =
     running_go_of go_request depths_done (lines_done_in phase) (root_move_in phase)

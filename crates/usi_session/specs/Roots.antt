@@ -1,4 +1,4 @@
--- The searches along the pvs of each `go`, by their roots (own choice).
+-- The pv searches of each `go`, by their roots (own choice).
 use Rattle.std.specs.Prelude.{ℕ, zero, suc, ◌+◌, ◌-◌, ◌==◌, List, [], ◌∷◌, ◌++◌, flat_map, Option, None, Some, cond}
 use Rattle.shogi_core.specs.declared.moves.Move.{Move}
 use Rattle.shogi_core.specs.Position.{Shogi}
@@ -35,51 +35,51 @@ pv_roots position eval (suc plies) =
     root_of position eval (suc plies)
     ∷ then_pv_roots (λ next. pv_roots next eval plies) position (best position eval (suc plies))
 
--- the searches along the pvs of these moves, with this many plies after each move
+-- the pv searches of these moves, with this many plies after each move
 abbrev pub pvs_roots : Shogi → Eval → ℕ → List ℕ → List Root
 pvs_roots position eval plies codes =
     flat_map (λ code. pv_roots (after_code position code) eval plies) codes
 
--- the searches along pvs of a depth: along its pv, or with several lines along each listed pv
+-- the pv searches of a depth: along its pv, or with several lines along each listed pv
 abbrev pub depth_roots : Shogi → Eval → ℕ → ℕ → List Root
 depth_roots position eval multi_pv depth =
     cond (multi_pv == 1) (pv_roots position eval depth)
     (pvs_roots position eval (depth - 1) (listed position eval multi_pv depth))
 
--- the searches along pvs of the next depths, `more` of them, above those done
+-- the pv searches of the next depths, `more` of them, above those done
 unfoldable pub roots_of_depths : Shogi → Eval → ℕ → ℕ → ℕ → List Root
 roots_of_depths position eval multi_pv depths_done zero = []
 roots_of_depths position eval multi_pv depths_done (suc more) =
     depth_roots position eval multi_pv (depths_done + 1)
     ++ roots_of_depths position eval multi_pv (depths_done + 1) more
 
--- the searches along pvs of each depth from 1 to this one; none if no move is legal
+-- the pv searches of each depth from 1 to this one; none if no move is legal
 abbrev pub roots_where : Shogi → Eval → ℕ → ℕ → List ℕ → List Root
 roots_where position eval multi_pv depth [] = []
 roots_where position eval multi_pv depth (code ∷ codes) =
     roots_of_depths position eval multi_pv 0 depth
 
--- the searches along pvs of a `go` to this depth in a state
+-- the pv searches of a `go` to this depth in a state
 abbrev pub roots_of_go : State → ℕ → List Root
 roots_of_go state depth =
     roots_where state.position state.options.eval state.options.multi_pv depth
     (legal_codes state.position)
 
--- the searches along pvs of a command: none but `go` searches
+-- the pv searches of a command: none but `go` searches
 abbrev pub roots_of_command : State → Command → List Root
 roots_of_command state (Go depth hold) = roots_of_go state (depth_of_go state depth)
 roots_of_command state _ = []
 
--- the searches along pvs of a line in a session that is not over
+-- the pv searches of a line in a session that is not over
 abbrev pub roots_to : State → Line → List Root
 roots_to state (Text text) = roots_of_command state (command_of text)
 roots_to state TooLong = []
 
--- the searches along pvs of a line: none if the session is over
+-- the pv searches of a line: none if the session is over
 abbrev pub roots_of_line : State → Line → List Root
 roots_of_line state line = cond state.is_over [] (roots_to state line)
 
--- the searches along pvs of these lines, answered in order from a state on
+-- the pv searches of these lines, answered in order from a state on
 unfoldable pub roots_from : State → List Line → List Root
 roots_from state [] = []
 roots_from state (line ∷ rest) =

@@ -20,7 +20,7 @@ use Rattle.usi_session.specs.GoInfos.{pv_by}
 use Rattle.usi_session.specs.Roots.{Root, pv_roots, then_pv_roots}
 use Rattle.usi_session.specs.GoTaskView.{GoTaskView, listed_at, lines_cost, lines_roots, current_roots}
 
--- a walk as callers see it: the evaluation, the position after the moves so far, the plies left,
+-- the view of a walk: the evaluation, the position after the moves so far, the plies left,
 -- and the whole pv with its value
 pub record Walked : Type 0 where
   pub eval : Eval
@@ -104,7 +104,7 @@ IsFoundOfChild go_request depths_done root_move ranks found =
     IsFoundBelow (after go_request.position root_move) go_request.eval depths_done
     (child_beta ranks) found
 
--- a running `go` as callers see it, by its walk and its search
+-- the view of a running `go`, by its walk and its search
 abbrev pub running_go_of : GoRequest → ℕ → ℕ → Option Move → Walked → Progress → GoTaskView
 running_go_of go_request depths_done lines_done root_move walk search = record {
   go_request = go_request;

@@ -6,8 +6,8 @@ ghost use Rattle.usi_session.specs.Walked.{IsQuestionInRange, IsFirst};
 use crate::go_request::GoRequest;
 use shogi_core::Move;
 
-/// The request, the first legal move, and the number of depths done. The current depth is `done +
-/// 1`; each root move has `done` plies after it.
+/// The request, the first legal move, and the depths done. The current depth is `done + 1`; each
+/// root move has `done` plies after it.
 #[derive(Clone, Copy, Debug)]
 pub struct Depth {
     pub go_request: GoRequest,

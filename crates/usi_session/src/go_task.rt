@@ -29,10 +29,9 @@ use std::mem::replace;
 use usi_lines::Hold;
 use usi_texts::{write_info, write_numbered_info};
 
-/// A running `go`. With one line, it walks along the pv of each depth. With several, it first
-/// searches each child of the root, only as far as its move may still be listed, and ranks the
-/// moves; then it walks along the pv of each listed move. The search is boxed because its stack is
-/// large.
+/// A running `go`. With one line, it walks along the pv of each depth. With several, it first ranks
+/// the root moves, searching each child only as far as its move may still be listed, and then walks
+/// along the pv of each listed move. The search is boxed because its stack is large.
 #[derive(Drop)]
 pub struct GoTask<A: Allocator> {
     depth: Depth,
@@ -54,14 +53,14 @@ impl<A: Allocator> Model for GoTask<A> {
     ghost invariant = { IsGoTask };
 }
 
-/// The move to play: the first of the pv.
+/// The first move of a pv.
 fn move_to_play(moves: &[Move]) -> Option<Move>
     ensures { result ≡ move_to_play moves.now }
 {
     moves.first().copied()
 }
 
-/// The reply to the move to play: the second move of the pv.
+/// The second move of a pv.
 fn move_to_ponder(moves: &[Move]) -> Option<Move>
     ensures { result ≡ move_to_ponder moves.now }
 {
@@ -102,7 +101,7 @@ fn shift_best(moves: &[Option<Move>; 2], walk: &PvWalk) -> [Option<Move>; 2]
     [moves[1], move_to_play(walk.moves())]
 }
 
-/// From this depth on, a search of the root visits the best moves of the two depths before first.
+/// The depth from which a search of the root first visits the best moves of the two depths before.
 /// At depth 4 they save little in most searches, and make some a third longer.
 const ADVISED_FROM: u8 = 5;
 
@@ -179,9 +178,8 @@ fn continue_search<M: Memo>(
     search.advance(memo, budget)
 }
 
-/// Continues the search of the walk's position. If it ends within the budget, returns the steps it
-/// made and sets up the next search along the walk, unless the pv is whole. Otherwise returns
-/// `None`, with the budget used up.
+/// Continues the search of the walk's position. If it ends, returns its steps and sets up the next
+/// one along the walk, if any; otherwise returns `None`, with the budget used up.
 fn walk_on<M: Memo>(
     walk: &mut PvWalk,
     search: &mut Search,
@@ -226,16 +224,16 @@ fn search_child(depth: &Depth, root_move: Move, ranks: &Ranks, search: &mut Sear
     search.restart_below(&next, depth.go_request.eval, depth.done, ranks.child_beta());
 }
 
-/// Whether a root move is the last ply of its line and the evaluation resolves captures there; then
-/// its worth is not what a search of its child finds.
+/// Whether the root move ends its line and the evaluation resolves captures there: its worth is
+/// then not its child's value.
 fn is_settled(depth: &Depth) -> bool
     ensures { result ≡ is_settled depth.now.go_request depth.now.done }
 {
     depth.done == 0 && depth.go_request.eval.resolves_captures()
 }
 
-/// Ranks a move by its child's value, or by its worth if that is settled without search. A value at
-/// or above the bound would rank behind a full list, so the move is left out.
+/// Ranks a move by its child's value, or by its worth if settled. A value at or above the bound
+/// leaves the list as it is, since the move would rank behind it.
 fn rank(depth: &Depth, root_move: Move, found: &Found, ranks: &mut Ranks)
     requires ranked { IsRankedTo depth.now.go_request depth.now.done root_move ranks.old }
     requires below { IsFoundOfChild depth.now.go_request depth.now.done root_move ranks.old found.now }
@@ -253,8 +251,8 @@ fn rank(depth: &Depth, root_move: Move, found: &Found, ranks: &mut Ranks)
     }
 }
 
-/// Takes the result of a child's search: sets up the search of the next child, or the walk along
-/// the first line. `replace` moves the ranks out of `child`, which the caller drops.
+/// Takes the result of a child's search, and sets up the next child's, or that of the first line.
+/// `replace` moves the ranks out of `child`, which the caller drops.
 fn rank_child(depth: &Depth, child: &mut Child, found: &Found, search: &mut Search) -> Phase
     requires several { depth.now.go_request.multi_pv ≢ 1 }
     requires ranked { IsRankedTo depth.now.go_request depth.now.done
@@ -341,9 +339,8 @@ impl<A: Allocator> GoTask<A> {
         })
     }
 
-    /// Continues the current search. If it ends within the budget, returns the steps it made and
-    /// sets up the next search, unless the pv is whole. Otherwise returns `None`, with the budget
-    /// used up.
+    /// Continues the current search. If it ends, returns its steps and sets up the next one, unless
+    /// the pv is whole; otherwise returns `None`, with the budget used up.
     pub fn advance<M: Memo>(&mut self, memo: &mut M, budget: u64) -> Option<u64>
         requires searching { is_searching self.old ≡ true }
         ensures unchanged { IsSameButForSearch self.old self.new }

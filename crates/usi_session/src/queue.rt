@@ -61,8 +61,8 @@ impl<A: Allocator> Queue<A> {
         &self.bytes[self.taken..]
     }
 
-    /// Drops the first n bytes. Once more than half of the buffer is taken, that part is drained
-    /// and spare capacity given back; each drain moves fewer bytes than were taken since the last.
+    /// Drops the first n bytes. Once more than half of the buffer is taken, that half is drained,
+    /// which moves fewer bytes than were taken, and spare capacity is given back.
     pub fn take(&mut self, n: usize)
         requires { n ≤ length self.old }
         ensures { self.new ≡ drop n self.old }

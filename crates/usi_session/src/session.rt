@@ -60,8 +60,8 @@ impl<A: Allocator + Copy> Model for Session<A> {
     ghost invariant = { λ s. AreInRange s.state.options };
 }
 
-/// Queues the answer to a line, or starts its `go`. The reply and the next state are made apart, so
-/// nothing changes if allocation fails.
+/// Queues the answer to a line, or starts its `go`. Reply and next state are made apart, so a
+/// failed allocation changes nothing.
 fn queue_answer<A: Allocator + Copy>(
     alloc: A,
     line: Line<'_>,
@@ -178,7 +178,7 @@ impl<A: Allocator + Copy> Session<A> {
         }
     }
 
-    /// Answers the first unread line, or starts its `go`. If allocation fails, nothing changes.
+    /// Answers the first unread line, or starts its `go`. A failed allocation changes nothing.
     fn answer_next(&mut self) -> Result<(), SessionFault>
         requires idle { self.old.go_task ≡ None }
         requires pending { is_pending self.old ≡ true }
@@ -196,7 +196,7 @@ impl<A: Allocator + Copy> Session<A> {
     }
 
     /// Reports the current line, once its pv is whole, and continues with the next line or ends the
-    /// `go`. If allocation fails, nothing changes.
+    /// `go`. A failed allocation changes nothing.
     fn report_next(&mut self) -> Result<(), SessionFault>
         requires whole { IsPvWhole self.old.go_task }
         requires pending { is_pending self.old ≡ true }
@@ -217,8 +217,8 @@ impl<A: Allocator + Copy> Session<A> {
         Ok(())
     }
 
-    /// Takes one turn: continues the current search, reports a line of the running `go`, or answers
-    /// an unread line. Returns the steps made, or `None` if the budget was used up within a search.
+    /// Takes one turn: searches, reports a line of the running `go`, or answers an unread line.
+    /// Returns the steps made, or `None` if the budget was used up within a search.
     fn work_once<M: Memo>(&mut self, memo: &mut M, budget: u64) -> Result<Option<u64>, SessionFault>
         requires pending { is_pending self.old ≡ true }
         ensures kept { KeepsDue self.old self.new }
@@ -251,8 +251,9 @@ impl<A: Allocator + Copy> Session<A> {
     /// Answers the pending lines in order, with at most `budget` steps of search, and returns the
     /// steps made. If something is still pending, the budget is used up and a search is running.
     /// After `OutOfMemory` the session still owes the same replies, and a later call continues; the
-    /// memo may have changed. In either case the queue only grows, by whole lines. If the memo
-    /// knows each position still to be searched, and MultiPV is 1, no step is made.
+    /// memo may have changed. The queue only grows, by whole lines.
+    /// No step is made if MultiPV stays 1, no search is under way, and the memo has the value of
+    /// each position still to be searched.
     pub fn work<M: Memo>(&mut self, memo: &mut M, budget: u64) -> Result<u64, SessionFault>
         ensures due { (x : List ℕ) → due self.new x ≡ due self.old x }
         ensures after { (x : List ℕ) → state_due self.new x ≡ state_due self.old x }
