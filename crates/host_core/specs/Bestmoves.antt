@@ -2,11 +2,11 @@
 use Rattle.std.specs.Prelude.{ℕ, ◌+◌, List, [], ◌∷◌, cond, codes, nat_eq}
 use Rattle.std.specs.List.{starts_with}
 
--- one where the bytes begin with the word
+-- 1 if the bytes begin with the word, else 0
 abbrev pub bestmove_at_front : List ℕ → ℕ
 bestmove_at_front bytes = cond (starts_with nat_eq bytes (codes "bestmove")) 1 0
 
--- at how many places of the bytes the word begins
+-- the number of places at which the word begins
 unfoldable pub bestmove_count : List ℕ → ℕ
 bestmove_count [] = 0
 bestmove_count (byte ∷ rest) = bestmove_at_front (byte ∷ rest) + bestmove_count rest

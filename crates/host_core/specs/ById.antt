@@ -1,10 +1,10 @@
--- What a host returns of a session by its id: nothing of one that is not open (own choice).
+-- What a host returns of a session by its id: nothing if none is open (own choice).
 use Rattle.std.specs.Prelude.{◌≡◌, ℕ, List, [], length, Bool, false, nat_lt, Option, Some, None, is_some}
 use Rattle.std.specs.Borrow.{Bor}
 use Rattle.usi_session.specs.Due.{SessionView, is_pending, wants_input}
 use Rattle.host_core.specs.declared.notes.Activity.{Activity}
 
--- the bytes that are queued
+-- the queued bytes
 abbrev pub queued_of : Option SessionView → List ℕ
 queued_of None = []
 queued_of (Some t) = t.queued
@@ -26,7 +26,7 @@ abbrev pub is_over_of : Option SessionView → Bool
 is_over_of None = false
 is_over_of (Some t) = t.state.is_over
 
--- all of this at once
+-- the activity of a session
 abbrev pub activity_of : Option SessionView → Activity
 activity_of found = record {
   is_open = is_some found;

@@ -1,9 +1,9 @@
--- What a host is asked and what it answers, with bytes as lists (own choice).
+-- The requests to a host and its answers, with bytes as lists (own choice).
 use Rattle.std.specs.Prelude.{ℕ, List}
 use Rattle.session_slots.specs.declared.id.SessionId.{SessionId}
 use Rattle.host_core.specs.declared.event.HostFault.{HostFault}
 
--- to open a session, or of the session of an id: to store bytes for it, to continue by so many steps, to take so many queued bytes, to close it
+-- a request: to open a session, or to store bytes for a session, work by so many steps, take so many queued bytes, or close it
 pub data Event : Type 0 where
   Open : Event
   Feed : (id : SessionId) (chunk : List ℕ) → Event
@@ -11,7 +11,7 @@ pub data Event : Type 0 where
   Take : (id : SessionId) (n : ℕ) → Event
   Close : (id : SessionId) → Event
 
--- the id of the session that was opened, done, the steps that were made, the bytes that were taken, or why nothing was done
+-- an answer: the id of the new session, done, the steps made, the bytes taken, or why nothing was done
 pub data Outcome : Type 0 where
   Opened : (id : SessionId) → Outcome
   Done : Outcome

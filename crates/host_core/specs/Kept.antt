@@ -1,4 +1,4 @@
--- What an event leaves as it was (own choice).
+-- What an event leaves unchanged (own choice).
 use Rattle.std.specs.Prelude.{◌≡◌, ℕ, Bool, true, false, Result}
 use Rattle.session_slots.specs.declared.id.SessionId.{SessionId}
 use Rattle.session_slots.specs.Slots.{find}
@@ -17,18 +17,18 @@ names id (Work at budget) outcome = is_same_id at id
 names id (Take at n) outcome = is_same_id at id
 names id (Close at) outcome = is_same_id at id
 
--- each session that is not named is what it was
+-- each session that the event does not name is unchanged
 abbrev pub KeepsOthers : HostState → Event → Outcome → HostState → Type 0
 KeepsOthers old event outcome new =
     (id : SessionId) → names id event outcome ≡ false → find new.slots id ≡ find old.slots id
 
--- each other session is what it was, where queued bytes of one are dropped with this result
+-- each other session is unchanged when queued bytes of one are dropped with this result
 abbrev pub PassKeepsOthers : {U : Type 0} → HostState → SessionId → ℕ → Result U HostFault
     → HostState → Type 0
 PassKeepsOthers old id n result new =
     KeepsOthers old (Take id n) (passed_from old id n result) new
 
--- refused, and no `Work`
+-- the event was refused and is not a `Work`
 abbrev pub is_refused : Event → Outcome → Bool
 is_refused Open (Refused fault) = true
 is_refused (Feed at chunk) (Refused fault) = true
@@ -36,6 +36,6 @@ is_refused (Take at n) (Refused fault) = true
 is_refused (Close at) (Refused fault) = true
 is_refused _ _ = false
 
--- where the event was refused the host is as it was, but for `Work`
+-- if the event was refused and is not a `Work`, the host is unchanged
 abbrev pub IfRefused : HostState → Event → Outcome → HostState → Type 0
 IfRefused old event outcome new = is_refused event outcome ≡ true → new ≡ old

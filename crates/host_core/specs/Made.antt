@@ -8,23 +8,23 @@ pub record Step : Type 0 where
   pub event : Event
   pub outcome : Outcome
 
--- each event with its outcome
+-- the events with their outcomes
 abbrev pub steps_of : {E O : Type 0} → (E → Event) → (O → Outcome) → List E → List O → List Step
 steps_of event outcome [] os = []
 steps_of event outcome (e ∷ es) [] = []
 steps_of event outcome (e ∷ es) (o ∷ os) =
     record { event = event e; outcome = outcome o } ∷ steps_of event outcome es os
 
--- two ids are the same
+-- the ids are equal
 abbrev pub is_same_id : SessionId → SessionId → Bool
 is_same_id a b = a.slot == b.slot && a.generation == b.generation
 
--- the bytes that an event stored for an id: those of a `Feed` of it that was done
+-- the bytes that an event stored for an id: those of a `Feed` that was done
 abbrev pub own_by : SessionId → Event → Outcome → List ℕ
 own_by id (Feed at chunk) Done = cond (is_same_id at id) chunk []
 own_by id _ _ = []
 
--- the bytes that were stored for an id, in order: its own input
+-- a session's own bytes: those stored for its id, in order
 abbrev pub own : SessionId → List Step → List ℕ
 own id [] = []
 own id (step ∷ rest) = own_by id step.event step.outcome ++ own id rest
@@ -34,12 +34,12 @@ abbrev pub taken_by : SessionId → Event → Outcome → List ℕ
 taken_by id (Take at n) (Gave bytes) = cond (is_same_id at id) bytes []
 taken_by id _ _ = []
 
--- the bytes that were handed out from an id, in order
+-- the bytes handed out from an id, in order
 abbrev pub taken : SessionId → List Step → List ℕ
 taken id [] = []
 taken id (step ∷ rest) = taken_by id step.event step.outcome ++ taken id rest
 
--- the bytes made for an id: those that were handed out, and then those that are queued for it at the end
+-- the bytes made for an id: those handed out, and then those still queued
 abbrev pub made : SessionId → List Step → List ℕ → List ℕ
 made id steps queued = taken id steps ++ queued
 
@@ -48,7 +48,7 @@ abbrev pub opens : SessionId → Event → Outcome → Bool
 opens id Open (Opened at) = is_same_id at id
 opens id _ _ = false
 
--- an `Open` of the steps was answered with this id
+-- one of the steps is an `Open` answered with this id
 abbrev pub is_opened : SessionId → List Step → Bool
 is_opened id [] = false
 is_opened id (step ∷ rest) = opens id step.event step.outcome || is_opened id rest

@@ -1,4 +1,4 @@
--- What a host notes of its sessions by slot (own choice).
+-- The notes of a host about its sessions, by slot (own choice).
 use Rattle.std.specs.Prelude.{◌≡◌, ◌≤◌, ◌==◌, ℕ, List, cond, drop, Option, Some, None, slice_get}
 use Rattle.session_slots.specs.declared.id.SessionId.{SessionId}
 use Rattle.session_slots.specs.Slots.{OpenSession, OpenSessions, find}
@@ -8,21 +8,21 @@ use Rattle.host_core.specs.declared.notes.Note.{Note}
 use Rattle.host_core.specs.ById.{activity_of}
 use Rattle.host_core.specs.Rounds.{pending_from}
 
--- what a note says of the session of a generation: nothing where it is of another one
+-- the activity that a note has for a generation: none if the note is of another one
 abbrev pub noted : Note → ℕ → Activity
 noted note generation = cond (note.generation == generation) note.activity (activity_of None)
 
--- each note says what the sessions of its slot want and have
+-- each note has the activity of its slot's sessions
 abbrev pub AreNoted : List Note → OpenSessions SessionView → Type 0
 AreNoted notes slots =
     (id : SessionId) (note : Note) → slice_get notes id.slot ≡ Some note
     → noted note id.generation ≡ activity_of (find slots id)
 
--- between these slots none is pending
+-- no session between these slots is pending
 abbrev pub AreSettled : ℕ → ℕ → List (Option (OpenSession SessionView)) → Type 0
 AreSettled first last slots =
     pending_from first (drop first slots) ≡ pending_from last (drop last slots)
 
--- the id stands at this slot or a later one, and none between is pending
+-- the id's slot is `from` or later, and no session between is pending
 abbrev pub IsNext : ℕ → OpenSessions SessionView → SessionId → Type 0
 IsNext from slots id = (from ≤ id.slot) × AreSettled from id.slot slots.slots

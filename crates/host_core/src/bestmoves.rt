@@ -1,9 +1,9 @@
-//! How often bytes have the word `bestmove`.
+//! Counts of the word `bestmove` in bytes.
 
 ghost use Rattle.std.specs.Prelude.{◌≡◌, ◌≤◌};
 ghost use Rattle.host_core.specs.Bestmoves.{bestmove_at_front, bestmove_count};
 
-/// One where the bytes begin with the word, and else none.
+/// 1 if the bytes begin with the word, else 0.
 fn bestmove_at_front(bytes: &[u8]) -> u64
     ensures count { result ≡ bestmove_at_front bytes.now }
     ensures most { result ≤ 1 }
@@ -11,7 +11,7 @@ fn bestmove_at_front(bytes: &[u8]) -> u64
     if bytes.starts_with(b"bestmove") { 1 } else { 0 }
 }
 
-/// At how many places of the bytes the word begins.
+/// The number of places at which the word begins.
 pub fn bestmove_count(bytes: &[u8]) -> u64
     ensures { result ≡ bestmove_count bytes.now }
 {

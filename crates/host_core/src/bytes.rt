@@ -1,11 +1,11 @@
-//! Bytes that were taken from a session.
+//! Bytes taken from a session.
 
 ghost use Rattle.std.specs.Prelude.{◌≡◌, IfOk};
 
 use std::alloc::{AllocError, Allocator};
 use std::marker::Model;
 
-/// Bytes that were taken from a session, seen as a list.
+/// Bytes taken from a session, seen as a list.
 #[derive(Drop)]
 pub struct Bytes<A: Allocator> {
     bytes: Vec<u8, A>,
@@ -20,7 +20,7 @@ impl<A: Allocator> Model for Bytes<A> {
 }
 
 impl<A: Allocator> Bytes<A> {
-    /// A copy of the bytes, or an error where there is no memory for it.
+    /// A copy of the bytes. It fails if there is no memory for it.
     pub fn copy_of(alloc: A, bytes: &[u8]) -> Result<Bytes<A>, AllocError>
         ensures { IfOk result (λ copy. copy ≡ bytes.now) }
     {
@@ -29,7 +29,7 @@ impl<A: Allocator> Bytes<A> {
         Ok(Bytes { bytes: copy })
     }
 
-    /// The bytes.
+    /// The bytes taken.
     pub fn as_slice(&self) -> &[u8]
         ensures { result.now ≡ self.now }
     {

@@ -24,7 +24,7 @@ use std::marker::Model;
 use usi_session::Session;
 use usi_texts::Setup;
 
-/// Drops what is there. Tells whether something was.
+/// Drops the value, and tells whether there was one.
 fn dropped<T: Drop>(value: Option<T>) -> Option<()>
     ensures some { OnSome result (IsSome value) }
     ensures if_none { IfNone result (value ≡ None) }
@@ -35,16 +35,16 @@ fn dropped<T: Drop>(value: Option<T>) -> Option<()>
     }
 }
 
-/// Sessions over one table of searched positions. Each is answered as if it were alone; what the
-/// others searched can only save it steps.
+/// Sessions over one table of searched positions. Each is answered as if it were alone; searches of
+/// the others can only save it steps.
 #[derive(Drop)]
 pub struct Host<S: BuildHasher, A: Allocator + Copy> {
     pub(crate) alloc: A,
-    // Each session begins under it.
+    // The setup under which each session begins.
     setup: Setup,
     table: SharedTable<S, A>,
     pub(crate) slots: Slots<Session<A>, A>,
-    // By slot.
+    // The notes, by slot.
     pub(crate) notes: Vec<Note, A>,
 }
 
@@ -60,7 +60,7 @@ impl<S: BuildHasher, A: Allocator + Copy> Model for Host<S, A> {
 }
 
 impl<S: BuildHasher, A: Allocator + Copy> Host<S, A> {
-    /// `with_setup` under the default setup.
+    /// A host under the default setup; see `with_setup`.
     pub fn new(alloc: A, slots: usize, entries: usize, hasher: S) -> Result<Host<S, A>, HostFault>
     where
         S: Drop,
@@ -74,8 +74,8 @@ impl<S: BuildHasher, A: Allocator + Copy> Host<S, A> {
         Host::with_setup(alloc, Setup::new(), slots, entries, hasher)
     }
 
-    /// No session yet, and an empty table: at most so many sessions at a time, from 1 to 1,024, and at
-    /// most so many entries, from 1 to 1,000,000. Each session begins under the setup. Its one fault is
+    /// A host without sessions, with an empty table. It holds at most `slots` sessions at a time,
+    /// from 1 to 1,024, and at most `entries` positions, from 1 to 1,000,000. The only fault is
     /// `OutOfMemory`.
     pub fn with_setup(
         alloc: A,
@@ -106,8 +106,8 @@ impl<S: BuildHasher, A: Allocator + Copy> Host<S, A> {
         })
     }
 
-    /// States that each entry of the table is true, that there are at most as many as its capacity,
-    /// that each id which finds a session has a generation below the next one, and that at most 1,024
+    /// States that each table entry is true, that there are at most `capacity` of them, that the
+    /// generation of each id that finds a session is below the next one, and that at most 1,024
     /// sessions are open.
     pub fn reveal_invariant(&self)
         ensures truth { AreTrue self.now.table.pairs }
@@ -126,37 +126,37 @@ impl<S: BuildHasher, A: Allocator + Copy> Host<S, A> {
         self.setup
     }
 
-    /// How many times the table found no memory for what a search noted, and stored nothing. The count
-    /// stays at the greatest number once it is there.
+    /// How often the table had no memory for a searched position, and stored nothing. The count
+    /// saturates.
     pub fn refused_notes(&self) -> u64
         ensures { result ≡ self.now.table.refused }
     {
         self.table.refused()
     }
 
-    /// How many probes of the table there were. The count stays at the greatest number once it is there.
+    /// The probes of the table so far. The count saturates.
     pub fn probes(&self) -> u64
         ensures { result ≡ self.now.table.probes }
     {
         self.table.probes()
     }
 
-    /// How many of them found an entry. The count stays at the greatest number once it is there.
+    /// The probes that found an entry. The count saturates.
     pub fn hits(&self) -> u64
         ensures { result ≡ self.now.table.hits }
     {
         self.table.hits()
     }
 
-    /// How many entries the table has.
+    /// The number of entries in the table.
     pub fn entries(&self) -> usize
         ensures { result ≡ length self.now.table.pairs }
     {
         self.table.len()
     }
 
-    /// Opens a session at its start, the opening position, each option as the setup has it, nothing held:
-    /// `Full` where as many are open as may be, or no id is left.
+    /// Opens a session: the opening position, each option as the setup has it, no bestmove held.
+    /// `Full` if the host is full or has no id left; `OutOfMemory`. A refusal changes nothing.
     pub fn open(&mut self) -> Result<SessionId, HostFault>
         ensures opened { Stepped self.old Open (as_outcome Opened result) self.new }
         ensures err { OnErr result (self.new ≡ self.old) }
@@ -175,8 +175,8 @@ impl<S: BuildHasher, A: Allocator + Copy> Host<S, A> {
         }
     }
 
-    /// Stores bytes for a session and answers none of them yet: `NotReady` where it wants no input, or
-    /// for more than 4,096 bytes.
+    /// Stores bytes for a session, and answers none yet. `UnknownSession`; `NotReady` if it wants
+    /// no input, or for more than 4,096 bytes; `OutOfMemory`. A refusal changes nothing.
     pub fn feed(&mut self, id: SessionId, chunk: &[u8]) -> Result<(), HostFault>
         ensures fed { Stepped self.old (Feed id chunk.now) (done_of result) self.new }
         ensures others { OthersKept self.old.slots self.new.slots id }
@@ -192,9 +192,10 @@ impl<S: BuildHasher, A: Allocator + Copy> Host<S, A> {
         fed
     }
 
-    /// Lets a session answer its pending lines, with at most so many steps of search. Gives the steps
-    /// that were made, 0 where nothing was pending. After `OutOfMemory` the session owes what it owed
-    /// and may have gone on, and the table may have changed.
+    /// Lets a session answer its pending lines, with at most `budget` steps of search. Returns the
+    /// steps made, 0 if nothing was pending. `UnknownSession` changes nothing; after `OutOfMemory`
+    /// the session still owes the same replies, but some may be queued now, and the table may have
+    /// changed.
     pub fn work(&mut self, id: SessionId, budget: u64) -> Result<u64, HostFault>
         ensures worked { Stepped self.old (Work id budget) (as_outcome Worked result) self.new }
         ensures others { OthersKept self.old.slots self.new.slots id }
@@ -212,7 +213,8 @@ impl<S: BuildHasher, A: Allocator + Copy> Host<S, A> {
         worked
     }
 
-    /// Hands out the first n queued bytes of a session: `NotReady` where fewer are queued.
+    /// Hands out the first n queued bytes of a session. `UnknownSession`; `NotReady` if fewer are
+    /// queued; `OutOfMemory`. A refusal changes nothing.
     pub fn take(&mut self, id: SessionId, n: usize) -> Result<Bytes<A>, HostFault>
         ensures taken { Stepped self.old (Take id n) (as_outcome Gave result) self.new }
         ensures others { OthersKept self.old.slots self.new.slots id }
@@ -231,8 +233,8 @@ impl<S: BuildHasher, A: Allocator + Copy> Host<S, A> {
         Ok(bytes)
     }
 
-    /// Drops the first n queued bytes of a session: `Take`, without handing the bytes out, so that it
-    /// takes no memory. Refused `UnknownSession`, or `NotReady` where fewer bytes are queued.
+    /// Drops the first n queued bytes of a session: a `Take` that hands nothing out, and takes no
+    /// memory. `UnknownSession`; `NotReady` if fewer are queued. A refusal changes nothing.
     pub fn pass(&mut self, id: SessionId, n: usize) -> Result<(), HostFault>
         ensures taken { Stepped self.old (Take id n) (passed_from self.old id n result) self.new }
         ensures no_memory { IsErrOf result OutOfMemory → ⊥ }
@@ -249,7 +251,8 @@ impl<S: BuildHasher, A: Allocator + Copy> Host<S, A> {
         passed
     }
 
-    /// Closes a session, with whatever it had queued or pending.
+    /// Closes a session, and drops whatever was queued or pending. `UnknownSession` if none is open
+    /// under the id.
     pub fn close(&mut self, id: SessionId) -> Result<(), HostFault>
         ensures closed { Stepped self.old (Close id) (done_of result) self.new }
         ensures others { OthersKept self.old.slots self.new.slots id }
@@ -266,7 +269,7 @@ impl<S: BuildHasher, A: Allocator + Copy> Host<S, A> {
         }
     }
 
-    /// The queued bytes of a session, or `None` where none is open under the id.
+    /// The queued bytes of a session, or `None` if none is open under the id.
     pub fn output(&self, id: SessionId) -> Option<&[u8]>
         ensures { IsQueue (find self.now.slots id) result }
     {
@@ -276,7 +279,8 @@ impl<S: BuildHasher, A: Allocator + Copy> Host<S, A> {
         }
     }
 
-    /// What the session wants and has, by its note. Nothing where none is open under the id.
+    /// The activity of a session, from its note; `Activity::NONE` if none is open under the id. The
+    /// slots are looked up only for an id without a note, which no session of this host has.
     pub fn activity(&self, id: SessionId) -> Activity
         ensures { result ≡ activity_of (find self.now.slots id) }
     {
@@ -289,23 +293,23 @@ impl<S: BuildHasher, A: Allocator + Copy> Host<S, A> {
         }
     }
 
-    /// Whether the session has something pending: a running `go` or an unread line, and it has not
-    /// ended. No where none is open under the id.
+    /// Whether a session has a running `go` or an unread line, and has not ended. False if none is
+    /// open under the id.
     pub fn pending(&self, id: SessionId) -> bool
         ensures { result ≡ pending_of (find self.now.slots id) }
     {
         self.activity(id).is_pending
     }
 
-    /// Whether the session may be fed: it has not ended, nothing is pending, and fewer than 65,536
-    /// bytes are queued. No where none is open under the id.
+    /// Whether a session may be fed: it has not ended, nothing is pending, and fewer than 65,536
+    /// bytes are queued. False if none is open under the id.
     pub fn wants_input(&self, id: SessionId) -> bool
         ensures { result ≡ wants_input_of (find self.now.slots id) }
     {
         self.activity(id).wants_input
     }
 
-    /// Whether the session has ended, by `quit` or a line that was too long. No where none is open
+    /// Whether a session has ended, by `quit` or a line that was too long. False if none is open
     /// under the id.
     pub fn is_over(&self, id: SessionId) -> bool
         ensures { result ≡ is_over_of (find self.now.slots id) }

@@ -1,4 +1,4 @@
-//! What a host notes of its sessions, by slot.
+//! Notes of a host about its sessions, by slot.
 
 ghost use Rattle.std.specs.Prelude.{◌≡◌, Some, slice_set};
 ghost use Rattle.host_core.specs.ById.{activity_of};
@@ -8,23 +8,23 @@ use session_slots::SessionId;
 use std::alloc::Allocator;
 use usi_session::Session;
 
-/// What a session wants and has. One that is not open wants and has nothing.
+/// What a session wants and has. All is false for a session that is not open.
 #[derive(Clone, Copy, Debug, PartialEq, Eq)]
 pub struct Activity {
-    /// It is open.
+    /// The session is open.
     pub is_open: bool,
-    /// It may be fed.
+    /// The session may be fed.
     pub wants_input: bool,
-    /// It has a running `go` or an unread line, and has not ended.
+    /// The session has a running `go` or an unread line, and has not ended.
     pub is_pending: bool,
     /// At least one byte is queued.
     pub has_output: bool,
-    /// It has ended, by `quit` or a line that was too long.
+    /// The session has ended, by `quit` or a line that was too long.
     pub is_over: bool,
 }
 
 impl Activity {
-    /// That of no session.
+    /// The activity without a session.
     pub const NONE: Activity = Activity {
         is_open: false,
         wants_input: false,
@@ -33,7 +33,7 @@ impl Activity {
         is_over: false,
     };
 
-    /// That of an open session.
+    /// The activity of an open session.
     pub fn of<A: Allocator + Copy>(session: &Session<A>) -> Activity
         ensures { result ≡ activity_of (Some session.now) }
     {
@@ -47,7 +47,7 @@ impl Activity {
     }
 }
 
-/// The activity of the session that was opened in a slot last, and its generation.
+/// The activity of the last session opened in a slot, and its generation.
 #[derive(Clone, Copy)]
 pub struct Note {
     pub generation: u64,
@@ -55,13 +55,13 @@ pub struct Note {
 }
 
 impl Note {
-    /// That of no session.
+    /// The note of a slot without a session.
     pub const NONE: Note = Note {
         generation: 0,
         activity: Activity::NONE,
     };
 
-    /// What it says of the session of a generation.
+    /// The activity that the note has for this generation; none if the note is of another one.
     pub fn of(&self, generation: u64) -> Activity
         ensures { result ≡ noted self.now generation }
     {
@@ -73,7 +73,7 @@ impl Note {
     }
 }
 
-/// Notes the activity of a session at its slot, where the slot has a note.
+/// Notes the activity of a session at its slot, if the slot has a note.
 pub fn set<A: Allocator>(notes: &mut Vec<Note, A>, id: SessionId, activity: Activity)
     ensures { notes.new.items ≡ slice_set notes.old.items id.slot
         (record { generation = id.generation; activity = activity }) }

@@ -1,4 +1,4 @@
-//! What one session answers to the events that name it.
+//! A session's part in the events that name it.
 
 ghost use Rattle.std.specs.Prelude.{◌≡◌, false, take, IsErrOf};
 ghost use Rattle.usi_session.specs.Due.{is_pending, EndsSearches};
@@ -13,7 +13,7 @@ use shogi_search::Memo;
 use std::alloc::Allocator;
 use usi_session::{CHUNK_MAX, Session};
 
-/// Stores the bytes, where the session may be fed.
+/// Stores the bytes, if the session may be fed.
 pub fn feed<A: Allocator + Copy>(session: &mut Session<A>, chunk: &[u8]) -> Result<(), HostFault>
     ensures { Feeds chunk.now session.old (done_of result) session.new }
 {
@@ -26,7 +26,8 @@ pub fn feed<A: Allocator + Copy>(session: &mut Session<A>, chunk: &[u8]) -> Resu
     }
 }
 
-/// Continues by at most so many steps. With nothing pending, the session and the memo are left as they are.
+/// Continues by at most `budget` steps. With nothing pending, the session and the memo are left as
+/// they are.
 pub fn work<A: Allocator + Copy, M: Memo>(
     session: &mut Session<A>,
     memo: &mut M,
@@ -47,7 +48,7 @@ pub fn work<A: Allocator + Copy, M: Memo>(
     }
 }
 
-/// Drops the first n bytes of the queue.
+/// Drops the first n queued bytes.
 pub fn pass<A: Allocator + Copy>(session: &mut Session<A>, n: usize) -> Result<(), HostFault>
     ensures taken { Takes n session.old (passed_of (take n session.old.queued) result) session.new }
     ensures no_memory { IsErrOf result OutOfMemory → ⊥ }

@@ -1,4 +1,4 @@
-//! A round of works.
+//! A round: one `Work` for each pending session.
 
 ghost use Rattle.std.specs.Prelude.{◌≡◌, ◌≤◌, ◌<◌, ◌+◌, ◌-◌, ◌^◌, IfSome, IfNone, IsSome, [], drop};
 ghost use Rattle.session_slots.specs.Slots.{find};
@@ -13,22 +13,22 @@ use session_slots::SessionId;
 use std::alloc::Allocator;
 use std::hash::BuildHasher;
 
-/// What a round did. Steps and `bestmove` lines stay at the greatest number once they are there.
+/// What a round did. Steps and `bestmove` lines saturate.
 #[derive(Clone, Copy, Debug, PartialEq, Eq)]
 pub struct Round {
     /// The works that succeeded.
     pub worked: usize,
     /// The works that ran out of memory.
     pub refused: usize,
-    /// The steps of those that succeeded.
+    /// The steps of the works that succeeded.
     pub steps: u64,
-    /// The `bestmove` lines that were queued: one for each `go` that was answered.
+    /// The `bestmove` lines queued, one for each `go` that was answered.
     pub bestmoves: u64,
 }
 
 impl<S: BuildHasher, A: Allocator + Copy> Host<S, A> {
-    /// One `Work` with this budget for each session that is pending as the call starts, by rising slot,
-    /// and for no other.
+    /// Makes one `Work` with this budget for each session that is pending when the call starts, by
+    /// rising slot, and for no other.
     pub fn round(&mut self, budget: u64) -> Round
         ensures round { MakesRound self.old budget result self.new }
         ensures counted { CountsRound self.old budget result.steps result.bestmoves self.new }
@@ -47,7 +47,7 @@ impl<S: BuildHasher, A: Allocator + Copy> Host<S, A> {
         round
     }
 
-    /// What a round does with an open session: a `Work` where something is pending.
+    /// A round's part for an open session: a `Work` if something is pending.
     fn round_at(&mut self, id: SessionId, budget: u64, round: Round) -> Round
         requires open { IsSome (find self.old.slots id) }
         requires not_last { id.slot < 2 ^ 64 - 1 }
@@ -83,7 +83,7 @@ impl<S: BuildHasher, A: Allocator + Copy> Host<S, A> {
         }
     }
 
-    /// The queued bytes of a session, and none where none is open under the id.
+    /// The queued bytes of a session; none if none is open under the id.
     fn queued(&self, id: SessionId) -> &[u8]
         ensures { result.now ≡ queued_of (find self.now.slots id) }
     {
@@ -93,7 +93,7 @@ impl<S: BuildHasher, A: Allocator + Copy> Host<S, A> {
         }
     }
 
-    /// The `bestmove` lines that are queued for a session behind the first so many bytes.
+    /// The `bestmove` lines queued for a session behind the first `first` bytes.
     fn bestmoves_behind(&self, id: SessionId, first: usize) -> u64
         ensures { result ≡ bestmove_count (drop first (queued_of (find self.now.slots id))) }
     {
@@ -103,7 +103,7 @@ impl<S: BuildHasher, A: Allocator + Copy> Host<S, A> {
         }
     }
 
-    /// An open session from this slot on, such that none between is pending.
+    /// An open session at slot `from` or later, with no pending one between.
     fn next_from(&self, from: usize) -> Option<SessionId>
         ensures next { IfSome result (IsNext from self.now.slots) }
         ensures open { IfSome result (λ id. IsSome (find self.now.slots id)) }
@@ -114,7 +114,7 @@ impl<S: BuildHasher, A: Allocator + Copy> Host<S, A> {
         self.slots.next_open(first.checked_sub(1))
     }
 
-    /// The first slot from this one on whose session is noted as pending, or that has no note.
+    /// The first slot at or after `from` whose note is pending, or that has no note.
     fn past_settled(&self, from: usize) -> usize
         ensures on { from ≤ result }
         ensures passed { AreSettled from result self.now.slots.slots }

@@ -1,4 +1,4 @@
-//! Events and runs of events, by the calls of a host.
+//! Events and runs of events.
 
 ghost use Rattle.std.specs.Prelude.{◌≡◌, ◌≤◌, IfOk, OnErr, Err, length, vec_len};
 ghost use Rattle.session_slots.specs.Slots.{IsBelow};
@@ -44,8 +44,8 @@ impl<S: BuildHasher, A: Allocator + Copy> Host<S, A> {
         }
     }
 
-    /// Answers one event. The session that it names answers as by its own call, and each other one is
-    /// left as it was. A refusal leaves all as it was, but for `Work` (see `Event::Work`).
+    /// Answers one event. The session that it names answers as by its own call; each other one is
+    /// left as it was. A refusal changes nothing, but for `Work` (see `Event::Work`).
     pub fn step(&mut self, event: Event<'_>) -> Outcome<A>
         ensures stepped { Stepped self.old (event_of event.entry) (outcome_of result) self.new }
         ensures others { KeepsOthers self.old (event_of event.entry) (outcome_of result) self.new }
@@ -61,12 +61,12 @@ impl<S: BuildHasher, A: Allocator + Copy> Host<S, A> {
     }
 
     /// Answers the events in order, with one outcome for each. `OutOfMemory` comes before the first
-    /// event, and leaves the host as it was.
+    /// event, and changes nothing.
     ///
-    /// For each session that an event opened, the bytes made for it are a prefix of the replies to the
-    /// bytes stored for it, and all of them where it is open at the end with nothing pending. A session
-    /// that was open before continues from what it owed. With nothing pending a session is over where the
-    /// bytes stored for it end it, by `quit` or a line that is too long, and nowhere else.
+    /// For each session that an event opened, the bytes made are a prefix of the replies to the
+    /// bytes stored for it, and all of them if it ends open with nothing pending. A session that
+    /// was open before continues from what it owed. With nothing pending, a session is over if and
+    /// only if its own bytes end it, by `quit` or a line that is too long.
     pub fn run(&mut self, events: &[Event<'_>]) -> Result<Vec<Outcome<A>, A>, HostFault>
         ensures each { IfOk result (λ outcomes. vec_len outcomes ≡ length events.now) }
         ensures chain { OfSteps events.now result (λ steps. IsRun self.old steps self.new) }

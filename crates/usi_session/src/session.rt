@@ -252,6 +252,7 @@ impl<A: Allocator + Copy> Session<A> {
     /// steps made. If something is still pending, the budget is used up and a search is running.
     /// After `OutOfMemory` the session still owes the same replies, and a later call continues; the
     /// memo may have changed. The queue only grows, by whole lines.
+    ///
     /// No step is made if MultiPV stays 1, no search is under way, and the memo has the value of
     /// each position still to be searched.
     pub fn work<M: Memo>(&mut self, memo: &mut M, budget: u64) -> Result<u64, SessionFault>
