@@ -5,7 +5,7 @@ use Rattle.host_core.specs.Bestmoves.{bestmove_at_front, bestmove_count}
 suc_plus : (i : ℕ) → suc i + 1 ≡ suc (i + 1)
 suc_plus i = omega arith
 
--- one place more
+-- the count up to one more place
 pub bestmoves_at : (bytes : List ℕ) (at : ℕ) → at < length bytes
     → bestmove_count (drop at bytes) ≡ bestmove_at_front (drop at bytes) + bestmove_count (drop (at + 1) bytes)
 unfolding bestmove_count
@@ -13,7 +13,7 @@ bestmoves_at [] at lt = absurd (omega (arith, lt))
 bestmoves_at (byte ∷ rest) zero lt = refl
 bestmoves_at (byte ∷ rest) (suc at) lt = rw (suc_plus at) (bestmoves_at rest at (omega (arith, lt)))
 
--- behind the last place there is none
+-- behind the last place the word does not begin
 pub bestmoves_end : (bytes : List ℕ) (at : ℕ) → length bytes ≤ at → bestmove_count (drop at bytes) ≡ 0
 unfolding bestmove_count
 bestmoves_end [] zero le = refl

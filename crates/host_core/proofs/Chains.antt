@@ -1,4 +1,4 @@
--- A chain of steps continued by one step.
+-- Chains of steps, continued by one step.
 use Rattle.std.proofs.Common.{◌≡◌, ℕ, ◌+◌, ◌<◌, List, [], ◌∷◌, ◌++◌, length, get_or, take, refl, sym, ap, ◌∙◌, arith}
 use Rattle.std.proofs.lemmas.List.{take_more, length-take-le}
 use Rattle.session_slots.specs.Slots.{IsBelow}
@@ -10,25 +10,25 @@ use Rattle.host_core.specs.Runs.{IsRun, IsStep}
 use Rattle.host_core.specs.Seen.{event_of, outcome_of, answered}
 use Rattle.host_core.specs.Steps.{HostState, Stepped}
 
--- no step yet
+-- the chain of no steps
 pub run-start : (h : HostState) → IsRun h [] h
 unfolding IsRun
 run-start h = refl
 
--- one step more
+-- a chain with one more step
 pub run-last : (old new : HostState) (steps : List Step) (next : HostState) (step : Step) → IsRun old steps new → IsStep new step next → IsRun old (steps ++ step ∷ []) next
 unfolding IsRun
 run-last old new [] next step r s = (next, rw r at s, refl)
 run-last old new (first ∷ rest) next step r s = (r.0, r.1, run-last r.0 new rest next step r.2 s)
 
--- one event more, and its outcome
+-- the steps of one more event and its outcome
 pub steps_of-last : {E O : Type 0} (event : E → Event) (outcome : O → Outcome) (es : List E) (os : List O) (e : E) (o : O) → length es ≡ length os → steps_of event outcome (es ++ e ∷ []) (os ++ o ∷ []) ≡ steps_of event outcome es os ++ record { event = event e; outcome = outcome o } ∷ []
 steps_of-last event outcome [] [] e o h = refl
 steps_of-last event outcome [] (p ∷ os) e o h = absurd (omega arith)
 steps_of-last event outcome (d ∷ es) [] e o h = absurd (omega arith)
 steps_of-last event outcome (d ∷ es) (p ∷ os) e o h = ap (λ rest. record { event = event d; outcome = outcome p } ∷ rest) (steps_of-last event outcome es os e o (omega arith))
 
--- one event more of a run of the code
+-- one more event of a run of the code
 pub run_on : {A : Type 0} (events : List code_event.Event) (outcomes more : List (code_outcome.Outcome A)) (o : code_outcome.Outcome A) (i : ℕ) (d : code_event.Event) (old now next : HostState) → i < length events → length outcomes ≡ i → IsRun old (answered (take i events) outcomes) now → IsBelow now.slots → Stepped now (event_of (get_or events i d)) (outcome_of o) next → more ≡ outcomes ++ o ∷ []
     → IsRun old (answered (take (i + 1) events) more) next
 run_on {A} events outcomes more o i d old now next lt count r below stepped f =

@@ -1,4 +1,4 @@
--- Ids that are the same.
+-- Equal ids.
 use Rattle.std.proofs.Common.{◌≡◌, ◌≢◌, ◌==◌, true, false, refl, ap, ◌∙◌}
 use Rattle.std.proofs.lemmas.Bool.{eqb-true, eq-eqb, and_parts, and_from, both_ways, false_from_ne_true}
 use Rattle.session_slots.specs.declared.id.SessionId.{SessionId}

@@ -1,4 +1,4 @@
--- What a step leaves as it was.
+-- What a step leaves unchanged.
 use Rattle.std.specs.Prelude.{Result, Ok, Err, OnErr}
 use Rattle.std.proofs.Common.{◌≡◌, ℕ, true, false, List, [], ◌∷◌, Option, Some, None, refl, ap, ◌∙◌}
 use Rattle.session_slots.specs.declared.id.SessionId.{SessionId}
@@ -72,7 +72,7 @@ close_refused : (old new : HostState) (at : SessionId) (fault : HostFault) (foun
 close_refused old new at fault None u = u.same
 close_refused old new at fault (Some s) c = (let e : Refused fault ≡ Done = c.done in absurd (cc))
 
--- what is refused, and is no `Work`, leaves all as it was
+-- a refused event that is not a `Work` changes nothing
 pub refused_same : (old new : HostState) (event : Event) (o : Outcome) → Stepped old event o new → is_refused event o ≡ true → new ≡ old
 refused_same old new Open (Refused fault) p r = open_refused old new fault p
 refused_same old new (Feed at chunk) (Refused fault) p r = feed_refused old new at chunk fault (find old.slots at) refl p.0 p.1
@@ -96,7 +96,7 @@ refused_same old new (Close at) Done p r = absurd (cc)
 refused_same old new (Close at) (Worked steps) p r = absurd (cc)
 refused_same old new (Close at) (Gave bytes) p r = absurd (cc)
 
--- a call that was refused, and is no `Work`, leaves all as it was
+-- a refused call that is not a `Work` changes nothing
 pub refused_call : {X : Type 0} (done : X → Outcome) (old new : HostState) (event : Event) (r : Result X HostFault)
     → ((fault : HostFault) → is_refused event (Refused fault) ≡ true) → Stepped old event (as_outcome done r) new → OnErr r (new ≡ old)
 refused_call done old new event (Ok given) may p = tt
@@ -120,7 +120,7 @@ step_capacity old new (Work at budget) o p = p.1.capacity_is
 step_capacity old new (Take at m) o p = ap (λ t. t.capacity) p.1
 step_capacity old new (Close at) o p = close_capacity old new at o (find old.slots at) p
 
--- a run leaves the table its capacity
+-- a run keeps the table's capacity
 pub keeps_capacity : (old new : HostState) (steps : List Step) → IsRun old steps new → new.table.capacity ≡ old.table.capacity
 unfolding IsRun
 keeps_capacity old new [] r = ap (λ h. h.table.capacity) r
@@ -149,7 +149,7 @@ step_setup old new (Work at budget) o p = on_setup (Works budget) old new at o (
 step_setup old new (Take at m) o p = on_setup (Takes m) old new at o (find old.slots at) p.0
 step_setup old new (Close at) o p = close_setup old new at o (find old.slots at) p
 
--- nor does a run
+-- no run changes the setup
 pub keeps_setup : (old new : HostState) (steps : List Step) → IsRun old steps new → new.setup ≡ old.setup
 unfolding IsRun
 keeps_setup old new [] r = ap (λ (h : HostState). h.setup) r

@@ -1,4 +1,4 @@
--- What is noted of sessions.
+-- Notes of a host's sessions.
 use Rattle.std.proofs.Common.{◌≡◌, ◌≢◌, ℕ, zero, suc, ◌+◌, Bool, true, false, cond, List, [], ◌∷◌, set, Option, Some, None, refl, sym, ap, ◌∙◌, inl, inr}
 use Rattle.std.specs.Prelude.{slice_get, slice_index_or, IsSome, replicate, ◌==◌}
 use Rattle.std.proofs.lemmas.Bool.{cases_eq, eq-eqb, ne_eqb}
@@ -22,7 +22,7 @@ either : (b : Bool) (a : Activity) → cond b a a ≡ a
 either true a = refl
 either false a = refl
 
--- before a session was opened
+-- the notes before any session
 pub none_noted : (n max next : ℕ) → AreNoted (replicate n (record { generation = 0; activity = activity_of None })) (record { max = max; next = next; slots = [] })
 none_noted n max next id note e = rw (← one_of n id.slot (record { generation = 0; activity = activity_of None }) note e) (either (0 == id.generation) (activity_of None))
 
@@ -69,19 +69,19 @@ noted_after notes old new at found were finds only kept id note e =
       | inr apart ↦ were id note (sym (set_other notes at.slot id.slot written apart) ∙ e) ∙ ap activity_of (sym (kept id (λ i. apart (ap (λ (j : SessionId). j.slot) i))))
     ]
 
--- after a write to the session of an id
+-- the notes after a write to the session of an id
 pub noted_written : (notes : List Note) (old : OpenSessions SessionView) (at : SessionId) (t after : SessionView) → find old at ≡ Some t → AreNoted notes old
     → AreNoted (set notes at.slot (record { generation = at.generation; activity = activity_of (Some after) })) (with_session old at after)
 noted_written notes old at t after e were =
     let finds = find-with_session old at t after e in
     noted_after notes old (with_session old at after) at (Some after) were finds (alone (with_session old at after) at (Some after) finds refl) (λ id differs. find-with_session-other old at id t after e differs)
 
--- after a session was opened
+-- the notes after a session was opened
 pub noted_opened : (notes : List Note) (old new : OpenSessions SessionView) (at : SessionId) (t : SessionView) → Opens old new at t → AreNoted notes old
     → AreNoted (set notes at.slot (record { generation = at.generation; activity = activity_of (Some t) })) new
 noted_opened notes old new at t o were = noted_after notes old new at (Some t) were o.now (alone new at (Some t) o.now refl) o.others
 
--- after a session was closed
+-- the notes after a session was closed
 pub noted_closed : (notes : List Note) (old new : OpenSessions SessionView) (at : SessionId) → IsSome (find old at) → find new at ≡ None → OthersKept old new at → AreNoted notes old
     → AreNoted (set notes at.slot (record { generation = at.generation; activity = activity_of None })) new
 noted_closed notes old new at some none kept were = noted_after notes old new at None were none (λ id differs same. kept id differs ∙ alone old at (find old at) refl some id differs same) kept
@@ -89,7 +89,7 @@ noted_closed notes old new at some none kept were = noted_after notes old new at
 abbrev pub has_pending : Activity → Bool
 has_pending activity = activity.is_pending
 
--- where a note has nothing pending it says so of no session
+-- a note with nothing pending says so of each session of its slot
 quiet : (b : Bool) (note : Note) → note.activity.is_pending ≡ false → has_pending (cond b note.activity (activity_of None)) ≡ false
 quiet true note e = e
 quiet false note e = refl
@@ -101,6 +101,6 @@ settled_by h slot note (Some o) e says idle =
     let finds : find h.slots id ≡ Some o.session = ap (of_generation o.generation) e ∙ ap (λ (b : Bool). cond b (Some o.session) None) (eq-eqb o.generation o.generation refl) in
     is_settled h id (rw finds refl) (ap has_pending (sym (says id refl)) ∙ quiet _ note idle)
 
--- a slot whose note has nothing pending is passed
+-- a slot is passed if its note has nothing pending
 pub noted_settled : (notes : List Note) (h : HostState) (slot : ℕ) (note : Note) → AreNoted notes h.slots → slice_get notes slot ≡ Some note → note.activity.is_pending ≡ false → AreSettled slot (slot + 1) h.slots.slots
 noted_settled notes h slot note are e idle = settled_by h slot note (slice_index_or h.slots.slots slot None) refl (λ id same. are id note (ap (slice_get notes) same ∙ e)) idle

@@ -1,4 +1,4 @@
--- What one session has of a run.
+-- A run as one session sees it.
 use Rattle.std.proofs.Common.{◌≡◌, ℕ, ◌<◌, ◌≤◌, Bool, true, false, List, [], ◌∷◌, ◌++◌, Option, Some, None, refl, sym, ap, ◌∙◌, arith, append_assoc, append-nil, inl, inr}
 use Rattle.std.specs.Prelude.{IsSome}
 use Rattle.std.proofs.lemmas.Bool.{or_cases, or_from, both_ways}
@@ -17,14 +17,14 @@ use Rattle.host_core.specs.Headline.{EndsFrom, IsPrefixOf, IsSettled}
 use Rattle.host_core.proofs.Sees.{Sees, sees, rises, Rises}
 use Rattle.host_core.proofs.Kept.{step_setup, keeps_setup}
 
--- nothing happens of an id that is gone
+-- no step concerns an id that is gone
 pub record IsGone (id : SessionId) (steps : List Step) (end : HostState) : Type 0 where
   pub no_own : own id steps ≡ []
   pub no_taken : taken id steps ≡ []
   pub no_open : is_opened id steps ≡ false
   pub none : find end.slots id ≡ None
 
--- a step of an id that is not open, and not the next one
+-- one step with an id that is gone
 record StaysGone (own_ taken_ : List ℕ) (opened : Bool) (new : Option SessionView) : Type 0 where
   pub no_own : own_ ≡ []
   pub no_taken : taken_ ≡ []
@@ -54,14 +54,14 @@ gone old new id (step ∷ rest) e h r =
     let n : old.slots.next ≤ r.0.slots.next = u.rises in
     gone_more id step rest new (find r.0.slots id) a (gone r.0 new id rest a.none (omega arith) r.2)
 
--- one step more before it
+-- one more step before these
 pub ends_more : (owes more : List ℕ → List ℕ) (own_ taken_ rest_own rest_taken : List ℕ) (now : Option SessionView) → ((x : List ℕ) → taken_ ++ more x ≡ owes (own_ ++ x)) → EndsFrom more rest_own rest_taken now → EndsFrom owes (own_ ++ rest_own) (taken_ ++ rest_taken) now
 ends_more owes more own_ taken_ rest_own rest_taken None h (rest, e) =
     (rest, append_assoc taken_ rest_taken rest ∙ (ap (λ xs. taken_ ++ xs) e ∙ h rest_own))
 ends_more owes more own_ taken_ rest_own rest_taken (Some t) h e = λ x.
     append_assoc taken_ rest_taken (due t x) ∙ (ap (λ xs. taken_ ++ xs) (e x) ∙ (h (rest_own ++ x) ∙ ap owes (sym (append_assoc own_ rest_own x))))
 
--- of what a session owed its own bytes were answered; it is not opened again
+-- the session answered part of what it owed to its own bytes, and its id is not opened again
 pub record Goes (id : SessionId) (owes : List ℕ → List ℕ) (steps : List Step) (now : Option SessionView) : Type 0 where
   pub ends : EndsFrom owes (own id steps) (taken id steps) now
   pub no_open : is_opened id steps ≡ false
@@ -87,7 +87,7 @@ mutual_step setup mid new id step rest s (Some t) e h v r more =
 pub is_some_of : (o : Option SessionView) (s : SessionView) → o ≡ Some s → IsSome o
 is_some_of o s e = rw e refl
 
--- a session that was open before
+-- a session that was open before the run
 pub kept : (old new : HostState) (id : SessionId) (steps : List Step) (s : SessionView) → find old.slots id ≡ Some s → IsRun old steps new → Goes id (due s) steps (find new.slots id)
 unfolding IsRun
 kept old new id [] s e r = record { ends = rw (r, e) (λ x. refl); no_open = refl }
@@ -107,7 +107,7 @@ started_step setup mid new id step rest (Some t) e v o r more =
     let g : Goes id (due t) rest (find new.slots id) = kept mid new id rest t e r in
     ends_more (replies_under setup) (due t) (own_by id step.event step.outcome) (taken_by id step.event step.outcome) (own id rest) (taken id rest) (find new.slots id) (rw (v.0, v.1, v.3) (λ x. refl)) g.ends
 
--- a session that is opened in the run
+-- a session opened in the run
 started : (setup : Setup) (old new : HostState) (id : SessionId) (steps : List Step) → old.setup ≡ setup → find old.slots id ≡ None → is_opened id steps ≡ true → IsRun old steps new → EndsFrom (replies_under setup) (own id steps) (taken id steps) (find new.slots id)
 unfolding IsRun
 started setup old new id [] k e o r = absurd (cc)
@@ -119,7 +119,7 @@ opened_by : (setup : Setup) (old new : HostState) (id : SessionId) (steps : List
 opened_by setup old new id steps None k e o r = started setup old new id steps k e o r
 opened_by setup old new id steps (Some s) k e o r = absurd (both_ways (is_opened id steps) (kept old new id steps s e r).no_open o)
 
--- under the setup of the host before the run, which is the one after it
+-- a session opened in the run is under the setup of the host before it, which the run keeps
 pub opened_under : (setup : Setup) (old new : HostState) (id : SessionId) (steps : List Step) → old.setup ≡ setup → is_opened id steps ≡ true → IsRun old steps new → EndsFrom (replies_under setup) (own id steps) (taken id steps) (find new.slots id)
 opened_under setup old new id steps k o r = opened_by setup old new id steps (find old.slots id) k refl o r
 

@@ -1,4 +1,4 @@
--- By which bytes one session ends in a run.
+-- The bytes that end a session in a run.
 use Rattle.std.proofs.Common.{◌≡◌, ℕ, ◌<◌, ◌≤◌, Bool, true, false, List, [], ◌∷◌, ◌++◌, Option, Some, None, refl, sym, ap, ◌∙◌, arith, append_assoc, append-nil, inl, inr}
 use Rattle.std.proofs.lemmas.Bool.{or_cases, both_ways}
 use Rattle.session_slots.specs.declared.id.SessionId.{SessionId}
@@ -17,7 +17,7 @@ use Rattle.host_core.proofs.Sees.{Sees, sees, rises, Rises}
 use Rattle.host_core.proofs.Kept.{step_setup, keeps_setup}
 use Rattle.host_core.proofs.OneSession.{IsGone, gone, kept, is_some_of}
 
--- one step more before it
+-- one more step before these
 pub over_more : (ends more : List ℕ → Bool) (own_ rest_own : List ℕ) (now : Option SessionView) → ((x : List ℕ) → more x ≡ ends (own_ ++ x)) → OverFrom more rest_own now → OverFrom ends (own_ ++ rest_own) now
 over_more ends more own_ rest_own None h c = tt
 over_more ends more own_ rest_own (Some t) h c = λ x. c x ∙ (h (rest_own ++ x) ∙ ap ends (sym (append_assoc own_ rest_own x)))
@@ -34,7 +34,7 @@ over_step setup mid new id step rest s None e h v r more =
 over_step setup mid new id step rest s (Some t) e h v r more =
     over_more (is_over_due s) (is_over_due t) (own_by id step.event step.outcome) (own id rest) (find new.slots id) (λ x. ap (λ (z : State). z.is_over) (v.2 x)) (more t e)
 
--- a session that was open before
+-- a session that was open before the run
 pub kept_over : (old new : HostState) (id : SessionId) (steps : List Step) (s : SessionView) → find old.slots id ≡ Some s → IsRun old steps new → OverFrom (is_over_due s) (own id steps) (find new.slots id)
 unfolding IsRun
 kept_over old new id [] s e r = rw (r, e) (λ x. refl)
@@ -53,7 +53,7 @@ started_over setup mid new id step rest None e v o r more =
 started_over setup mid new id step rest (Some t) e v o r more =
     over_more (is_over_after_under setup) (is_over_due t) (own_by id step.event step.outcome) (own id rest) (find new.slots id) (rw (v.0, v.3) (λ x. refl)) (kept_over mid new id rest t e r)
 
--- a session that is opened in the run
+-- a session opened in the run
 over_new : (setup : Setup) (old new : HostState) (id : SessionId) (steps : List Step) → old.setup ≡ setup → find old.slots id ≡ None → is_opened id steps ≡ true → IsRun old steps new → OverFrom (is_over_after_under setup) (own id steps) (find new.slots id)
 unfolding IsRun
 over_new setup old new id [] k e o r = absurd (cc)
@@ -65,7 +65,7 @@ over_from : (setup : Setup) (old new : HostState) (id : SessionId) (steps : List
 over_from setup old new id steps None k e o r = over_new setup old new id steps k e o r
 over_from setup old new id steps (Some s) k e o r = absurd (both_ways (is_opened id steps) (kept old new id steps s e r).no_open o)
 
--- under the setup of the host before the run, which is the one after it
+-- a session opened in the run is under the setup of the host before it, which the run keeps
 pub over_under : (setup : Setup) (old new : HostState) (id : SessionId) (steps : List Step) → old.setup ≡ setup → is_opened id steps ≡ true → IsRun old steps new → OverFrom (is_over_after_under setup) (own id steps) (find new.slots id)
 over_under setup old new id steps k o r = over_from setup old new id steps (find old.slots id) k refl o r
 
@@ -76,7 +76,7 @@ over_by : (t : SessionView) (over : Bool) → t.state.is_over ≡ over → is_pe
 over_by t true e settled = state_due-over t [] e
 over_by t false e settled = ap (λ (s : State). s.is_over) (state_due-settled t e settled) ∙ e
 
--- with nothing pending it is over exactly where its bytes end it
+-- with nothing pending, a session is over if and only if its bytes end it
 pub over_settled : (ends : List ℕ → Bool) (own_ : List ℕ) (now : Option SessionView) → OverFrom ends own_ now → IsSettled now → is_over_of now ≡ ends own_
 over_settled ends own_ None c settled = absurd settled
 over_settled ends own_ (Some t) c settled = sym (over_by t t.state.is_over refl settled) ∙ (c [] ∙ ap ends (append-nil own_))

@@ -40,7 +40,7 @@ vacant_settled slot (None ∷ rest) zero e = refl
 vacant_settled slot (Some o ∷ rest) zero e = absurd (cc)
 vacant_settled slot (x ∷ rest) (suc i) e = rw (suc_plus i) (vacant_settled slot rest i e)
 
--- from a slot on, the next open session stands here, and the slots before it add nothing
+-- from this slot on, the next open session is the id's, and the slots before it add no pending id
 record Skips (slot : ℕ) (slots : List (Option (OpenSession SessionView))) (id : SessionId) : Type 0 where
   from : slot ≤ id.slot
   rest : pending_from slot slots ≡ pending_from id.slot (drop (id.slot - slot) slots)
@@ -71,13 +71,13 @@ next_settled slot slots id e =
     let there : slot + (id.slot - slot) ≡ id.slot = omega arith in
     (from, s.rest ∙ ap (pending_from id.slot) (drop-drop (id.slot - slot) slot slots ∙ ap (λ n. drop n slots) there))
 
--- where no more session is open none is pending
+-- if no further session is open, none is pending
 none_open : (slot : ℕ) (slots : List (Option (OpenSession SessionView))) → first_open slot slots ≡ None → pending_from slot slots ≡ []
 none_open slot [] e = refl
 none_open slot (None ∷ rest) e = none_open (slot + 1) rest e
 none_open slot (Some o ∷ rest) e = absurd (cc)
 
--- the next open session after slots of which none is pending
+-- the next open session after slots without a pending one
 pub next_found : (slots : OpenSessions SessionView) (from first : ℕ) (after : Option ℕ) (result : Option SessionId) → start_of after ≡ first → result ≡ next_of slots after → from ≤ first → AreSettled from first slots.slots
     → IfSome result (IsNext from slots)
 next_found slots from first after None s e on passed = tt
@@ -110,7 +110,7 @@ counted_on budget old new id Done (Some s) c = absurd c.went
 counted_on budget old new id (Opened at) (Some s) c = absurd c.went
 counted_on budget old new id (Gave bytes) (Some s) c = absurd c.went
 
--- one more work is counted
+-- one more `Work` is counted
 counts_last : (old : HostState) (budget : ℕ) (ids : List SessionId) (steps bestmoves so_far answered : ℕ) (now next : HostState) (id : SessionId) (o : Outcome) (n m : ℕ)
     → CountsWorks old budget ids steps bestmoves so_far answered now → Stepped now (Work id budget) o next
     → n ≡ with_steps so_far o → m ≡ plus answered (bestmoves_since now id next)
@@ -124,20 +124,20 @@ counts_last old budget [] steps bestmoves so_far answered now next id o n m c st
 counts_last old budget (first ∷ ids) steps bestmoves so_far answered now next id o n m c stepped s b =
     (c.0, c.1, c.2, counts_last c.1 budget ids _ _ so_far answered now next id o n m c.3 stepped s b)
 
--- no work is counted yet
+-- no `Work` is counted yet
 counts_none : (h : HostState) (budget : ℕ) → CountsWorks h budget [] 0 0 0 0 h
 unfolding CountsWorks
 counts_none h budget = (refl, refl, refl)
 
--- before the first slot
+-- a round at the first slot
 pub round_start : (h : HostState) (budget : ℕ) → RoundTo h budget 0 (record { worked = 0; refused = 0; steps = 0; bestmoves = 0 }) h
 round_start h budget = record { ids = []; so_far = record { outcomes = []; each = refl; run = run-start h; worked_is = refl; refused_is = refl; all = refl }; counted = counts_none h budget; rest = refl }
 
--- at a later slot, where none between is pending
+-- a round at a later slot, if none between is pending
 pub round_settled : (old : HostState) (budget slot last : ℕ) (round : Round) (now : HostState) → RoundTo old budget slot round now → AreSettled slot last now.slots.slots → RoundTo old budget last round now
 round_settled old budget slot last round now r same = record { ids = r.ids; so_far = r.so_far; counted = r.counted; rest = ap (λ xs. r.ids ++ xs) (sym same) ∙ r.rest }
 
--- what is pending from the slot of an open session on
+-- the pending ids from an open session's slot on
 pending_at : (h : HostState) (id : SessionId) (t : SessionView) → find h.slots id ≡ Some t → pending_from id.slot (drop id.slot h.slots.slots) ≡ cond (is_pending t) (id ∷ pending_from (id.slot + 1) (drop (id.slot + 1) h.slots.slots)) (pending_from (id.slot + 1) (drop (id.slot + 1) h.slots.slots))
 pending_at h id t e = pending_opened id.slot h.slots.slots id.slot (record { generation = id.generation; session = t }) (slot_of id.generation (slice_index_or h.slots.slots id.slot None) t e)
 
@@ -146,11 +146,11 @@ here_settled h id None e some idle = absurd (cc)
 here_settled h id (Some t) e some idle =
     pending_at h id t e ∙ ap (λ b. cond b (id ∷ pending_from (id.slot + 1) (drop (id.slot + 1) h.slots.slots)) (pending_from (id.slot + 1) (drop (id.slot + 1) h.slots.slots))) idle
 
--- at an open session that has nothing pending
+-- an open session with nothing pending is passed
 pub is_settled : (h : HostState) (id : SessionId) → IsSome (find h.slots id) → pending_of (find h.slots id) ≡ false → AreSettled id.slot (id.slot + 1) h.slots.slots
 is_settled h id some idle = here_settled h id (find h.slots id) refl some idle
 
--- the later slots are what they were
+-- the later slots are unchanged
 works_later : (budget : ℕ) (h next : HostState) (id : SessionId) (o : Outcome) (found : Option SessionView) → OnSession (Works budget) h id found o next → drop (id.slot + 1) next.slots.slots ≡ drop (id.slot + 1) h.slots.slots
 works_later budget h next id o None u = ap (λ (x : HostState). drop (id.slot + 1) x.slots.slots) u.same
 works_later budget h next id o (Some s) c = ap (λ (q : OpenSessions SessionView). drop (id.slot + 1) q.slots) c.slots_are ∙ drop-set-lt (id.slot + 1) h.slots.slots id.slot _ (omega arith)
@@ -160,7 +160,7 @@ first_pending h id None e pending = absurd (cc)
 first_pending h id (Some t) e pending =
     pending_at h id t e ∙ ap (λ b. cond b (id ∷ pending_from (id.slot + 1) (drop (id.slot + 1) h.slots.slots)) (pending_from (id.slot + 1) (drop (id.slot + 1) h.slots.slots))) pending
 
--- a session that has something pending
+-- a round works a session that has something pending
 pub round_more : (old : HostState) (budget : ℕ) (id : SessionId) (round : Round) (now next : HostState) (o : Outcome) (after : Round) → RoundTo old budget id.slot round now → pending_of (find now.slots id) ≡ true
     → IsBelow now.slots → Stepped now (Work id budget) o next → after.worked ≡ round.worked + cond (has_worked o) 1 0 → after.refused ≡ round.refused + cond (was_refused o) 1 0
     → after.steps ≡ with_steps round.steps o → after.bestmoves ≡ plus round.bestmoves (bestmoves_since now id next) → RoundTo old budget (id.slot + 1) after next
@@ -184,7 +184,7 @@ round_more old budget id round now next o after t pending below stepped f g s b 
           ∙ (ap (λ xs. t.ids ++ id ∷ pending_from (id.slot + 1) xs) (works_later budget now next id o (find now.slots id) stepped.0) ∙ (ap (λ xs. t.ids ++ xs) (sym e) ∙ t.rest));
     }
 
--- where nothing more is pending
+-- a round is done if nothing further is pending
 pub round_all : (old : HostState) (budget slot : ℕ) (round : Round) (now : HostState) → RoundTo old budget slot round now → pending_from slot (drop slot now.slots.slots) ≡ [] → MakesRound old budget round now × CountsRound old budget round.steps round.bestmoves now
 round_all old budget slot round now t e =
     let all : t.ids ≡ pending_ids old = sym (append-nil t.ids) ∙ (ap (λ xs. t.ids ++ xs) (sym e) ∙ t.rest) in
@@ -197,7 +197,7 @@ abbrev pub is_in : SessionId → List SessionId → Bool
 is_in id [] = false
 is_in id (at ∷ ids) = is_same_id at id || is_in id ids
 
--- what is pending from a later slot on is pending from an earlier one on
+-- an id pending from a later slot on is pending from an earlier one on
 in_more : (b : Bool) (id first : SessionId) (rest : List SessionId) → is_in id rest ≡ true → is_in id (cond b (first ∷ rest) rest) ≡ true
 in_more true id first rest e = or_right (is_same_id first id) (is_in id rest) e
 in_more false id first rest e = e
@@ -208,7 +208,7 @@ in_later slot (suc i) later [] id f e = absurd (cc)
 in_later slot (suc i) later (None ∷ rest) id f e = in_later (slot + 1) i later rest id (omega arith) e
 in_later slot (suc i) later (Some o ∷ rest) id f e = in_more (is_pending o.session) id _ (pending_from (slot + 1) rest) (in_later (slot + 1) i later rest id (omega arith) e)
 
--- a pending session is among those of a round
+-- a pending session has a place in the round
 pub pending_in : (h : HostState) (id : SessionId) → pending_of (find h.slots id) ≡ true → is_in id (pending_ids h) ≡ true
 pending_in h id p =
     in_later 0 id.slot id.slot h.slots.slots id (omega arith)

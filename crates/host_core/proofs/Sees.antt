@@ -1,4 +1,4 @@
--- What one session has of one step.
+-- A step as one session sees it.
 use Rattle.std.proofs.Common.{◌≡◌, ℕ, ◌+◌, ◌≤◌, Bool, true, false, List, [], ◌++◌, Option, Some, None, cond, refl, sym, ap, ◌∙◌, arith}
 use Rattle.session_slots.specs.declared.id.SessionId.{SessionId}
 use Rattle.session_slots.specs.Slots.{OpenSessions, find, Opens}
@@ -12,19 +12,19 @@ use Rattle.host_core.specs.Steps.{HostState, Unknown, Changed, OnSession, IsOpen
 use Rattle.host_core.specs.Made.{is_same_id, own_by, taken_by, opens}
 use Rattle.host_core.proofs.Ids.{same_id, other_id}
 
--- what one session has of a step, by what its id finds before and after: nothing, while it is not open; it is opened new under a setup; it answers to its own bytes; or it is closed
+-- a step as one session sees it, by what its id finds before and after: nothing happens while it is not open; it is opened under a setup; it answers to its own bytes; or it is closed
 abbrev pub Sees : Setup → List ℕ → List ℕ → Bool → Option SessionView → Option SessionView → Type 0
 Sees setup own taken opened None None = (own ≡ []) × (taken ≡ []) × (opened ≡ false)
 Sees setup own taken opened None (Some t) = (own ≡ []) × (taken ≡ []) × (opened ≡ true) × (t ≡ new_session_under setup)
 Sees setup own taken opened (Some s) (Some t) = (opened ≡ false) × ((x : List ℕ) → taken ++ due t x ≡ due s (own ++ x)) × ((x : List ℕ) → state_due t x ≡ state_due s (own ++ x))
 Sees setup own taken opened (Some s) None = (own ≡ []) × (taken ≡ []) × (opened ≡ false)
 
--- nothing of it happened
+-- nothing happened to the session
 sees_same : (setup : Setup) (old new : Option SessionView) → new ≡ old → Sees setup [] [] false old new
 sees_same setup None new e = rw e (refl, refl, refl)
 sees_same setup (Some s) new e = rw e (refl, λ x. refl, λ x. refl)
 
--- the session of an id changed: that one has it, and no other
+-- the session of one id changed, and no other
 changed_at : (b : Bool) (goes : SessionView → Outcome → SessionView → Type 0) (old new : HostState) (at id : SessionId) (s : SessionView) (o : Outcome) (own taken : List ℕ) → is_same_id at id ≡ b → find old.slots at ≡ Some s → (c : Changed goes old at s o new) → ((x : List ℕ) → taken ++ due c.after x ≡ due s (own ++ x)) → ((x : List ℕ) → state_due c.after x ≡ state_due s (own ++ x))
     → Sees old.setup (cond b own []) (cond b taken []) false (find old.slots id) (find new.slots id)
 changed_at true goes old new at id s o own taken e f c h k =
@@ -43,7 +43,7 @@ cond_nil : (b : Bool) (xs : List ℕ) → xs ≡ [] → cond b xs xs ≡ []
 cond_nil true xs e = e
 cond_nil false xs e = e
 
--- neither bytes of its own nor bytes taken
+-- no own bytes and no bytes taken
 quiet : (goes : SessionView → Outcome → SessionView → Type 0) (old new : HostState) (at id : SessionId) (s : SessionView) (o : Outcome) → find old.slots at ≡ Some s → (c : Changed goes old at s o new) → ((x : List ℕ) → due c.after x ≡ due s x) → ((x : List ℕ) → state_due c.after x ≡ state_due s x) → Sees old.setup [] [] false (find old.slots id) (find new.slots id)
 quiet goes old new at id s o f c h k =
     let none : cond (is_same_id at id) [] [] ≡ [] = cond_nil (is_same_id at id) [] refl in
@@ -122,7 +122,7 @@ closed : (old new : HostState) (at id : SessionId) (o : Outcome) (found : Option
 closed old new at id o None u = unknown old new o id u
 closed old new at id o (Some s) c = closed_at (is_same_id at id) old new at id o refl c
 
--- each session has its own part of a step, and no more
+-- each session sees its own part of a step, and no more
 pub sees : (old new : HostState) (id : SessionId) (event : Event) (o : Outcome) → Stepped old event o new → Sees old.setup (own_by id event o) (taken_by id event o) (opens id event o) (find old.slots id) (find new.slots id)
 sees old new id Open o p = opened old new id o p
 sees old new id (Feed at chunk) o p = fed old new at id chunk o (find old.slots at) refl p.0
@@ -130,7 +130,7 @@ sees old new id (Work at budget) o p = worked old new at id budget o (find old.s
 sees old new id (Take at n) o p = took old new at id n o (find old.slots at) refl p.0
 sees old new id (Close at) o p = closed old new at id o (find old.slots at) p
 
--- the generation of the next id never falls, and an id that is opened has it
+-- the next generation never falls, and an opened id has it
 pub record Rises (old new : HostState) (id : SessionId) (opened : Bool) : Type 0 where
   pub rises : old.slots.next ≤ new.slots.next
   pub fresh : opened ≡ true → id.generation ≡ old.slots.next

@@ -62,7 +62,7 @@ of_written fact old new id s t e is holds before after was now =
     let a : t ≡ after = cc in
     subst (λ (v : SessionView). fact before v) a (subst (λ (v : SessionView). fact v t) b holds)
 
--- where all is known to the table, no step is needed
+-- if the table knows all roots, no step is made
 pub no_step : (result : Result ℕ HostFault) (table : Table) (s t : SessionView)
     → TakesNoStep (λ (m : Table). answers_of m) IsUsed table result s t
     → IsAllKnown (answers_of table) s → NeedsNoStep (as_outcome Worked result) t

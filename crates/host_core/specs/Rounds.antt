@@ -16,7 +16,7 @@ use Rattle.host_core.specs.declared.round.Round.{Round}
 abbrev pub id_in : ℕ → OpenSession SessionView → SessionId
 id_in slot o = record { slot = slot; generation = o.generation }
 
--- the ids of the pending sessions of these slots, of which the first has this number
+-- the ids of the pending sessions in these slots, numbered from `slot` on
 abbrev pub pending_from : ℕ → List (Option (OpenSession SessionView)) → List SessionId
 pending_from slot [] = []
 pending_from slot (None ∷ rest) = pending_from (slot + 1) rest
@@ -43,7 +43,7 @@ abbrev pub was_refused : Outcome → Bool
 was_refused (Refused fault) = true
 was_refused _ = false
 
--- one `Work` for each of these ids in order: so many succeeded, and so many were refused, which is all of them
+-- one `Work` for each of these ids in order: this many succeeded, and the others were refused
 pub record IsRound (old : HostState) (budget : ℕ) (ids : List SessionId)
     (worked refused : ℕ) (new : HostState) : Type 0 where
   pub outcomes : List Outcome
@@ -53,13 +53,13 @@ pub record IsRound (old : HostState) (budget : ℕ) (ids : List SessionId)
   pub refused_is : refused ≡ count_by was_refused outcomes
   pub all : worked + refused ≡ length ids
 
--- the `bestmove` lines queued for an id since a state, behind the bytes that were queued then
+-- the `bestmove` lines queued for an id behind the bytes that were queued in the old state
 abbrev pub bestmoves_since : HostState → SessionId → HostState → ℕ
 bestmoves_since old id new =
     bestmove_count
     (drop (length (queued_of (find old.slots id))) (queued_of (find new.slots id)))
 
--- the steps with those of a work, which a refusal does not tell
+-- the steps with those of a `Work`; one that is refused adds none
 abbrev pub with_steps : ℕ → Outcome → ℕ
 with_steps steps (Worked made) = plus steps made
 with_steps steps (Refused fault) = steps
@@ -67,7 +67,7 @@ with_steps steps (Opened id) = steps
 with_steps steps Done = steps
 with_steps steps (Gave bytes) = steps
 
--- one `Work` for each of these ids in order: the steps and `bestmove` lines before them, and after
+-- one `Work` for each of these ids in order raises the steps and `bestmove` lines to these numbers
 unfoldable pub CountsWorks : HostState → ℕ → List SessionId → ℕ → ℕ → ℕ → ℕ → HostState → Type 0
 CountsWorks old budget [] steps bestmoves all_steps all_bestmoves new =
     (new ≡ old) × (all_steps ≡ steps) × (all_bestmoves ≡ bestmoves)
@@ -76,17 +76,17 @@ CountsWorks old budget (id ∷ ids) steps bestmoves all_steps all_bestmoves new 
     × CountsWorks mid budget ids (with_steps steps outcome)
     (plus bestmoves (bestmoves_since old id mid)) all_steps all_bestmoves new
 
--- the steps and the `bestmove` lines of a round
+-- the steps and `bestmove` lines of a round
 abbrev pub CountsRound : HostState → ℕ → ℕ → ℕ → HostState → Type 0
 CountsRound old budget steps bestmoves new =
     CountsWorks old budget (pending_ids old) 0 0 steps bestmoves new
 
--- a round: one `Work` for each session that was pending, by rising slot, with these numbers
+-- a round: one `Work` for each session that was pending, by rising slot, with these counts
 abbrev pub MakesRound : HostState → ℕ → Round → HostState → Type 0
 MakesRound old budget round new =
     IsRound old budget (pending_ids old) round.worked round.refused new
 
--- a round that has come to a slot: it did its part for some ids, and those that are still pending from there on are the rest
+-- a round has come to a slot: it did its part for the first ids, and the rest are pending from this slot on
 pub record RoundTo (old : HostState) (budget slot : ℕ) (round : Round)
     (now : HostState) : Type 0 where
   pub ids : List SessionId

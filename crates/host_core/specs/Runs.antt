@@ -4,7 +4,7 @@ use Rattle.session_slots.specs.Slots.{IsBelow}
 use Rattle.host_core.specs.Made.{Step}
 use Rattle.host_core.specs.Steps.{HostState, Stepped}
 
--- a step from one state to the next; each open id has a generation below the next one
+-- a step from one state to the next; the generation of each open id is below the next one
 pub record IsStep (old : HostState) (step : Step) (new : HostState) : Type 0 where
   pub below : IsBelow old.slots
   pub stepped : Stepped old step.event step.outcome new

@@ -26,30 +26,30 @@ outcome_of (outcome.Worked steps) = events.Worked steps
 outcome_of (outcome.Gave bytes) = events.Gave bytes
 outcome_of (outcome.Refused fault) = events.Refused fault
 
--- each event of a run with its outcome
+-- the events of a run with their outcomes
 abbrev pub answered : {A : Type 0} → List code_event.Event → List (code_outcome.Outcome A)
     → List Step
 answered {A} es os = steps_of event_of (outcome_of {A = A}) es os
 
--- it holds of the events with their outcomes, where there are outcomes
+-- the property holds of the events with their outcomes, if the run has any
 abbrev pub OfSteps : {A Z E : Type 0} → List code_event.Event
     → Result (Vec (code_outcome.Outcome A) Z) E → (List Step → Type 0) → Type 0
 OfSteps es result P = IfOk result (λ outcomes. P (answered es outcomes.items))
 
--- what a call gave, as an outcome, or its fault as a refusal
+-- the result of a call as an outcome: a fault is a refusal
 abbrev pub as_outcome : {X : Type 0} → (X → events.Outcome) → Result X HostFault → events.Outcome
 as_outcome done (Ok given) = done given
 as_outcome done (Err fault) = events.Refused fault
 
--- of a call that gives nothing
+-- the result of a call that returns nothing, as an outcome
 abbrev pub done_of : {U : Type 0} → Result U HostFault → events.Outcome
 done_of result = as_outcome (λ _. events.Done) result
 
--- the outcome of a `Take` of these bytes, where the bytes themselves are not handed out
+-- the outcome of a `Take` of these bytes, for a call that does not hand them out
 abbrev pub passed_of : {U : Type 0} → List ℕ → Result U HostFault → events.Outcome
 passed_of bytes result = as_outcome (λ _. events.Gave bytes) result
 
--- the outcome of a `Take` of the first n queued bytes, where they are not handed out
+-- the outcome of a `Take` of the first n queued bytes, for a call that does not hand them out
 abbrev pub passed_from : {U : Type 0} → HostState → SessionId → ℕ → Result U HostFault
     → events.Outcome
 passed_from old id n result = passed_of (take n (queued_of (find old.slots id))) result

@@ -1,4 +1,4 @@
--- What one session answers to an event of its own: its own calls, with their refusals in order (own choice).
+-- A session's part in the events that name it: its own calls, with their refusals in order (own choice).
 use Rattle.std.specs.Prelude.{◌≡◌, ℕ, ◌+◌, ◌≤◌, ◌<◌, List, ◌++◌, length, take, drop, true, false}
 use Rattle.usi_session.specs.WholeLines.{GrowsByLines}
 use Rattle.usi_session.specs.Due.{SessionView, due, state_due, load, is_pending, wants_input, IsMidSearch}
@@ -6,11 +6,11 @@ use Rattle.host_core.specs.declared.event.HostFault.TheVariants.{OutOfMemory, No
 use Rattle.host_core.specs.Events.{Outcome, Done, Worked, Gave, Refused}
 use Rattle.usi_session.specs.declared.limits.TheConstants.{CHUNK_MAX}
 
--- it may be fed these bytes
+-- the session wants input, and the chunk is not too long
 abbrev pub CanFeed : SessionView → List ℕ → Type 0
 CanFeed t chunk = (wants_input t ≡ true) × (length chunk ≤ CHUNK_MAX)
 
--- the bytes were stored: it owes what it owed for them and for what follows, and comes to the state that it came to
+-- the bytes were stored: for any further bytes, the debt and the state to come are those for the chunk and these
 pub record Fed (old : SessionView) (chunk : List ℕ) (new : SessionView) : Type 0 where
   pub could : CanFeed old chunk
   pub owed : (x : List ℕ) → due new x ≡ due old (chunk ++ x)
@@ -19,7 +19,7 @@ pub record Fed (old : SessionView) (chunk : List ℕ) (new : SessionView) : Type
   pub state_is : new.state ≡ old.state
   pub running_go_is : new.go_task ≡ old.go_task
 
--- it went on by so many steps, owes what it owed and comes to the state that it came to, and its queue has only grown, by whole lines; where something is still pending, the budget is spent within a search
+-- the session worked for this many steps: its debt and the state to come are unchanged, its queue has only grown, by whole lines, and if something is still pending, the budget is spent within a search
 pub record WorkedOn (old : SessionView) (budget steps : ℕ) (new : SessionView) : Type 0 where
   pub owed : (x : List ℕ) → due new x ≡ due old x
   pub after : (x : List ℕ) → state_due new x ≡ state_due old x
@@ -30,7 +30,7 @@ pub record WorkedOn (old : SessionView) (budget steps : ℕ) (new : SessionView)
   pub enough : load old ≤ budget → is_pending new ≡ false
   pub idle : is_pending old ≡ false → (steps ≡ 0) × (new ≡ old)
 
--- out of memory on the way: it owes what it owed, and may have gone on; its queue has only grown, by whole lines
+-- the session ran out of memory: its debt and the state to come are unchanged, and its queue has only grown, by whole lines
 pub record Stopped (old new : SessionView) : Type 0 where
   pub was_pending : is_pending old ≡ true
   pub owed : (x : List ℕ) → due new x ≡ due old x
@@ -38,7 +38,7 @@ pub record Stopped (old new : SessionView) : Type 0 where
   pub grown : GrowsByLines old.queued new.queued
   pub made : load new ≤ load old
 
--- the first bytes of its queue were taken
+-- the first n queued bytes were taken
 pub record Taken (old : SessionView) (n : ℕ) (bytes : List ℕ) (new : SessionView) : Type 0 where
   pub there : n ≤ length old.queued
   pub bytes_are : bytes ≡ take n old.queued

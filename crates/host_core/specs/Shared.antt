@@ -1,4 +1,4 @@
--- What the table of a host answers of a search that ended, whichever session asks (own choice).
+-- What the table of a host answers for a search that ended, whichever session asks (own choice).
 use Rattle.std.specs.Prelude.{◌≡◌, ◌<◌, ◌⊎◌, ℕ, List, ◌∷◌, ◌++◌, Some, None, length}
 use Rattle.std.specs.List.{AllByRecursion}
 use Rattle.session_slots.specs.declared.id.SessionId.{SessionId}
@@ -16,11 +16,11 @@ use Rattle.host_core.specs.Steps.{HostState, Stepped}
 abbrev pub key_of_root : Root → Key
 key_of_root root = key_of root.position root.eval root.depth
 
--- the table answers all that a search of the root finds: its value, and its best move
+-- the table answers the root with its exact value and best move
 abbrev pub IsKnown : Table → Root → Type 0
 IsKnown table root = entry_of table.pairs (key_of_root root) ≡ Some (entry_of_root root)
 
--- the calls are for fewer other keys than the capacity, and note no other entry under its key
+-- the calls are for fewer other keys than the capacity, and note no other entry under the root's key
 pub record LeaveRoom (table : Table) (root : Root) (calls : List Call) : Type 0 where
   pub others : List Key
   pub of_others : AllByRecursion (IsOfOthers (key_of_root root) others) calls
@@ -32,13 +32,13 @@ StaysKnown table root =
     (later : Table) (calls : List Call) → AreCalled IsUsed table calls later
     → LeaveRoom table root calls → IsKnown later root
 
--- the table did not have the key, and memory for it was refused, which was counted
+-- the table did not have the root's key, and was refused the memory, which was counted
 pub record IsRefused (root : Root) (table : Table) : Type 0 where
   pub before : Table
   pub none : entry_of before.pairs (key_of_root root) ≡ None
   pub counted : table ≡ with_refusal before
 
--- a search of the root ended on the way to this table: then it was known and stays so, or memory was refused
+-- a search of the root ended before this state of the table: the root was then known and stays so, or memory was refused
 pub record IsShared (root : Root) (new : Table) : Type 0 where
   pub ended : Table
   pub since : IsCalled IsUsed ended new

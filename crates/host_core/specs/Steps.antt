@@ -13,13 +13,13 @@ use Rattle.host_core.specs.Events.{Event, Open, Feed, Work, Take, Close, Outcome
 use Rattle.host_core.specs.ById.{pending_of}
 use Rattle.host_core.specs.Sessions.{Feeds, Works, Takes}
 
--- what the operator decided for all sessions, the table that they share, and those that are open
+-- the state of a host: the setup of all sessions, the table that they share, and the open sessions
 pub record HostState : Type 0 where
   pub setup : Setup
   pub table : Table
   pub slots : OpenSessions SessionView
 
--- under a setup; no session was opened yet, and the table is empty
+-- a new host under a setup: no session was opened yet, and the table is empty
 abbrev pub new_host_under : Setup → ℕ → ℕ → HostState
 new_host_under setup max entries = record {
   setup = setup;
@@ -27,7 +27,7 @@ new_host_under setup max entries = record {
   slots = record { max = max; next = 0; slots = [] };
 }
 
--- the same under the default setup
+-- a new host under the default setup
 abbrev pub new_host : ℕ → ℕ → HostState
 new_host max entries = new_host_under default_setup max entries
 
@@ -44,27 +44,27 @@ pub record Changed (goes : SessionView → Outcome → SessionView → Type 0) (
   pub slots_are : new.slots ≡ with_session old.slots id after
   pub setup_is : new.setup ≡ old.setup
 
--- the session of the id answers, where it is open
+-- the session of the id answers if it is open
 abbrev pub OnSession : (SessionView → Outcome → SessionView → Type 0) → HostState → SessionId
     → Option SessionView → Outcome → HostState → Type 0
 OnSession goes old id None outcome new = Unknown old outcome new
 OnSession goes old id (Some session) outcome new = Changed goes old id session outcome new
 
--- a session was opened where there was room, and begins under the setup of the host
+-- there was room, and a session was opened under the setup of the host
 pub record OpenedAs (old : HostState) (id : SessionId) (new : HostState) : Type 0 where
   pub room : IsFull old.slots → ⊥
   pub opens : Opens old.slots new.slots id (new_session_under old.setup)
   pub table_is : new.table ≡ old.table
   pub setup_is : new.setup ≡ old.setup
 
--- `Full` exactly where there is no room; `OutOfMemory` only where there is
+-- `Full` if and only if there is no room; otherwise a session is opened or memory is refused
 abbrev pub IsOpened : HostState → Outcome → HostState → Type 0
 IsOpened old (Opened id) new = OpenedAs old id new
 IsOpened old (Refused Full) new = IsFull old.slots × (new ≡ old)
 IsOpened old (Refused OutOfMemory) new = (IsFull old.slots → ⊥) × (new ≡ old)
 IsOpened old _ new = ⊥
 
--- the session of the id is open no more, and no other changed
+-- the session of the id was closed, and no other changed
 pub record Closed (old : HostState) (id : SessionId) (outcome : Outcome)
     (new : HostState) : Type 0 where
   pub done : outcome ≡ Done
@@ -88,7 +88,7 @@ NeedsNoStep Done after = Unit {0}
 NeedsNoStep (Gave bytes) after = Unit {0}
 NeedsNoStep (Refused fault) after = Unit {0}
 
--- the table keeps its capacity, and is what it was where nothing of the session is pending; it was told of each search of the session that ended; and where it had the value of each root of them, with one line, no step was made
+-- the table keeps its capacity; it is unchanged if nothing of the session was pending; it was told each search of the session that ended; if it had the value of each root, with one line, no step was made
 pub record KeepsTable (old : HostState) (id : SessionId) (outcome : Outcome) (new : HostState)
     : Type 0 where
   pub capacity_is : new.table.capacity ≡ old.table.capacity
@@ -102,12 +102,12 @@ pub record KeepsTable (old : HostState) (id : SessionId) (outcome : Outcome) (ne
       → find old.slots id ≡ Some before → find new.slots id ≡ Some after
       → IsAllKnown (answers_of old.table) before → NeedsNoStep outcome after
 
--- the session of the id continues
+-- the session of the id worked
 abbrev pub IsWorked : ℕ → HostState → SessionId → Outcome → HostState → Type 0
 IsWorked budget old id outcome new =
     OnSession (Works budget) old id (find old.slots id) outcome new × KeepsTable old id outcome new
 
--- each event with its outcome, and the host after it; only a `Work` of a session that is pending may change the table, and none changes the setup
+-- each event with its outcome and the host after it; only a `Work` of a pending session may change the table, and no event changes the setup
 abbrev pub Stepped : HostState → Event → Outcome → HostState → Type 0
 Stepped old Open outcome new = IsOpened old outcome new
 Stepped old (Feed id chunk) outcome new =

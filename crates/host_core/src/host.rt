@@ -106,9 +106,9 @@ impl<S: BuildHasher, A: Allocator + Copy> Host<S, A> {
         })
     }
 
-    /// States that each table entry is true, that there are at most `capacity` of them, that the
-    /// generation of each id that finds a session is below the next one, and that at most 1,024
-    /// sessions are open.
+    /// States the invariants: each table entry is true, there are at most `capacity` of them, each
+    /// id that finds a session has a generation below the next one, and at most 1,024 sessions are
+    /// open.
     pub fn reveal_invariant(&self)
         ensures truth { AreTrue self.now.table.pairs }
         ensures fits { length self.now.table.pairs ≤ self.now.table.capacity }

@@ -5,7 +5,7 @@ use Rattle.usi_session.proofs.TellsLaws.{none_called, none_ended_for}
 use Rattle.usi_session.proofs.WholeReplies.{grows_by_none}
 use Rattle.host_core.proofs.on_session.work.Goals as goal
 
--- with nothing pending no search ends
+-- with nothing pending, no search ends
 pub returns-then-not-pending-clause-told : goal.returns-then-not-pending-clause-told
 returns-then-not-pending-clause-told g c = none_ended_for _ _ _ _ _ (none_called _ _) (λ x. refl)
 

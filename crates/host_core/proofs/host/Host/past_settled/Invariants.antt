@@ -2,7 +2,7 @@ use Rattle.std.proofs.Common.{◌≤◌, ◌-◌, length}
 use Rattle.host_core.specs.Notes.{AreSettled}
 use Rattle.host_core.proofs.host.Host.past_settled.Given as goal
 
--- between the first slot and this one none is pending
+-- no session between the first slot and this one is pending
 abbrev pub invariant-loop-slot : goal.invariant-loop-slot
 invariant-loop-slot g l = record {
   on : l.from ≤ l.slot;

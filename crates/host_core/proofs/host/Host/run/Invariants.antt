@@ -4,7 +4,7 @@ use Rattle.host_core.specs.Seen.{answered}
 use Rattle.host_core.specs.Runs.{IsRun}
 use Rattle.host_core.proofs.host.Host.run.Given as goal
 
--- the events so far and their outcomes lead here, and there is room for the outcomes to come
+-- the events so far with their outcomes lead here, and there is room for the outcomes to come
 abbrev pub invariant-loop-event : goal.invariant-loop-event
 invariant-loop-event g l = record {
   chain : IsRun l.fn.self (answered (take l.event-index l.events) l.outcomes.items) l.self;
