@@ -12,7 +12,7 @@ use Rattle.host_core.specs.Steps.{HostState, Unknown, Changed, OnSession, IsOpen
 use Rattle.host_core.specs.Made.{is_same_id, own_by, taken_by, opens}
 use Rattle.host_core.proofs.Ids.{same_id, other_id}
 
--- a step as one session sees it, by what its id finds before and after: nothing happens while it is not open; it is opened under a setup; it answers to its own bytes; or it is closed
+-- a step as one session sees it, by what its id finds before and after: nothing while it is not open, its opening under a setup, an answer to its own bytes, or its closing
 abbrev pub Sees : Setup → List ℕ → List ℕ → Bool → Option SessionView → Option SessionView → Type 0
 Sees setup own taken opened None None = (own ≡ []) × (taken ≡ []) × (opened ≡ false)
 Sees setup own taken opened None (Some t) = (own ≡ []) × (taken ≡ []) × (opened ≡ true) × (t ≡ new_session_under setup)

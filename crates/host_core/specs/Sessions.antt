@@ -19,7 +19,7 @@ pub record Fed (old : SessionView) (chunk : List ℕ) (new : SessionView) : Type
   pub state_is : new.state ≡ old.state
   pub running_go_is : new.go_task ≡ old.go_task
 
--- the session worked for this many steps: its debt and the state to come are unchanged, its queue has only grown, by whole lines, and if something is still pending, the budget is spent within a search
+-- the session worked for this many steps: the replies due and the state to come are unchanged, and its queue has only grown, by whole lines. If something is still pending, the budget is spent within a search
 pub record WorkedOn (old : SessionView) (budget steps : ℕ) (new : SessionView) : Type 0 where
   pub owed : (x : List ℕ) → due new x ≡ due old x
   pub after : (x : List ℕ) → state_due new x ≡ state_due old x

@@ -88,7 +88,7 @@ NeedsNoStep Done after = Unit {0}
 NeedsNoStep (Gave bytes) after = Unit {0}
 NeedsNoStep (Refused fault) after = Unit {0}
 
--- the table keeps its capacity; it is unchanged if nothing of the session was pending; it was told each search of the session that ended; if it had the value of each root, with one line, no step was made
+-- the table keeps its capacity, and is unchanged if nothing of the session was pending. It was told each search of the session that ended. If it had the value of each root, with one line, no step was made
 pub record KeepsTable (old : HostState) (id : SessionId) (outcome : Outcome) (new : HostState)
     : Type 0 where
   pub capacity_is : new.table.capacity ≡ old.table.capacity

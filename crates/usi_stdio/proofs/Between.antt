@@ -18,7 +18,7 @@ use Rattle.usi_stdio.specs.declared.streams.StdioFault.{StdioFault}
 use Rattle.usi_stdio.specs.declared.streams.StdioFault.TheVariants.{OutOfMemory, ReadFailed, WriteFailed}
 use Rattle.usi_stdio.proofs.Talking.{called_none, called_then, after_both, after_one, dialogue_both, dialogue_call, gives_at, read_goes_on, takes_at}
 
--- between two reads: what was written and what is owed are the replies, and the session may be fed
+-- between two reads: the bytes written and those due are the replies, and the session may be fed
 pub record IsBetween (setup : Setup) (before now : Report) (s : SessionView) (reads : ℕ) : Type 0 where
   pub read : List ℕ
   pub consumed : Consumes before.unread now.unread read
@@ -33,7 +33,7 @@ pub record IsBetween (setup : Setup) (before now : Report) (s : SessionView) (re
   pub empty : s.queued ≡ []
   pub wants : wants_input s ≡ true
 
--- the same with a chunk that was read and is not answered yet
+-- after a read: as between two reads, with a chunk that is not answered yet
 pub record IsRead (setup : Setup) (before now : Report) (s : SessionView) (reads : ℕ) (chunk : List ℕ) : Type 0 where
   pub old : Report
   pub b : IsBetween setup before old s reads
@@ -48,12 +48,12 @@ pub record IsRead (setup : Setup) (before now : Report) (s : SessionView) (reads
 alive : {setup : Setup} (before now : Report) (s : SessionView) (reads : ℕ) (b : IsBetween setup before now s reads) → is_over_after_under setup b.read ≡ false
 alive {setup} before now s reads b = ap (λ xs. is_over_after_under setup xs) (sym (append-nil b.read)) ∙ (ap (λ (t : State). t.is_over) (sym (b.left [])) ∙ state_due-wanting s b.wants)
 
--- all that was read is answered while the session wants input
+-- all replies are written while the session wants input
 all_written : {setup : Setup} (before now : Report) (s : SessionView) (reads : ℕ) (b : IsBetween setup before now s reads) → b.made ≡ replies_under setup b.read
 all_written {setup} before now s reads b =
     sym (append-nil b.made) ∙ (ap (λ xs. b.made ++ xs) (sym (due-wanting s b.wants ∙ b.empty)) ∙ (b.owed [] ∙ ap (replies_under setup) (append-nil b.read)))
 
--- a chunk that is read while the session wants input
+-- the session was not over before this chunk
 stops_at : {setup : Setup} (before now : Report) (s : SessionView) (reads : ℕ) (chunk : List ℕ) (b : IsBetween setup before now s reads) → length chunk ≤ CHUNK_MAX → StopsInTime setup (b.read ++ chunk)
 stops_at {setup} before now s reads chunk b most = record {
   prefix = b.read;
@@ -63,13 +63,13 @@ stops_at {setup} before now s reads chunk b most = record {
   alive = alive before now s reads b;
 }
 
--- nothing further was read
+-- the session was not over before the last chunk if nothing further was read
 stops_between : {setup : Setup} (before now : Report) (s : SessionView) (reads : ℕ) (b : IsBetween setup before now s reads) → StopsInTime setup b.read
 stops_between {setup} before now s reads b =
     let all : StopsInTime setup (b.read ++ []) = stops_at before now s reads [] b (omega arith) in
     rw (append-nil b.read) at all
 
--- calls that are a dialogue up to this state, at which the run ends
+-- a dialogue up to this state, at which the run ends
 talks_at : (setup : Setup) (old new : Option (List Call)) (calls : List Call) (t : Talk) (result : Result (Unit {0}) StdioFault) → Makes old new calls → IsDialogue setup no_call calls → after_calls no_call calls ≡ t → IsFront setup t → EndsAs setup t result → Talks setup old new result
 talks_at setup old new calls t result called dialogue stands front ended = record {
   calls = calls;
@@ -79,13 +79,13 @@ talks_at setup old new calls t result called dialogue stands front ended = recor
   ended = rw stands ended;
 }
 
--- a fault that the last call asked for
+-- the run ends with the fault that the last call asked for
 ends_by : (setup : Setup) (t : Talk) (fault : StdioFault) → t.outcome ≡ asked_by fault → EndsAs setup t (Err fault)
 ends_by setup t OutOfMemory e = e
 ends_by setup t ReadFailed e = inl e
 ends_by setup t WriteFailed e = e
 
--- nothing was read or written
+-- a run that read and wrote nothing
 pub left_start : (setup : Setup) (r : Report) → IsLeft setup r r
 left_start setup r = record {
   cut_short = record {
@@ -98,7 +98,7 @@ left_start setup r = record {
   taken = Appends-nil (of_calls taken_by r.calls);
 }
 
--- before the first read
+-- a run before its first read
 pub between_start : (setup : Setup) (r : Report) (s : SessionView) → s ≡ new_session_under setup → ((x : List ℕ) → due s x ≡ replies_under setup x) → ((x : List ℕ) → state_due s x ≡ state_from (initial_state_under setup) (lines x)) → IsBetween setup r r s 0
 between_start setup r s new owed left = record {
   read = [];
@@ -132,7 +132,7 @@ read_more {setup} before mid now s reads n buf chunk b r same = rw same (record 
   stands = after_one no_call b.calls (Read (take n buf)) ∙ ap (λ t. after_call t (Read (take n buf))) b.stands;
 })
 
--- nothing further was read or written by these calls
+-- these calls read and wrote nothing further
 left_between : {setup : Setup} (before mid now : Report) (s : SessionView) (reads : ℕ) (calls : List Call) (o : Option (Result (Unit {0}) StdioFault)) (b : IsBetween setup before mid s reads) → Keeps mid.unread now.unread → Keeps mid.written now.written
     → Makes before.calls now.calls calls → after_calls no_call calls ≡ record (quiet b.read reads b.made) { outcome = o } → IsLeft setup before now
 left_between {setup} before mid now s reads calls o b unread written called stands = record {
@@ -198,7 +198,7 @@ talks_at_end {setup} before now s reads none done r e =
     let written : r.b.made ≡ replies_under setup (r.b.read ++ none) = all_at_end before now s reads none r e in
     talks_at setup before.calls now.calls r.calls _ (Ok done) r.called r.dialogue r.stands ([], sym written ∙ sym (append-nil r.b.made)) ((written, refl), inl (ap asked_by_read e))
 
--- what is owed and left once a chunk was answered
+-- the bytes written and due once a chunk was answered
 worked : {setup : Setup} (before now new : Report) (s t : SessionView) (reads : ℕ) (chunk : List ℕ) (r : IsRead setup before now s reads chunk) (w : Answers s t chunk now new) (x : List ℕ) → (r.b.made ++ w.made) ++ due t x ≡ replies_under setup ((r.b.read ++ chunk) ++ x)
 worked {setup} before now new s t reads chunk r w x =
     append_assoc r.b.made w.made (due t x) ∙ (ap (λ xs. r.b.made ++ xs) (sym (w.owed x)) ∙ (r.b.owed (chunk ++ x) ∙ ap (replies_under setup) (sym (append_assoc r.b.read chunk x))))
@@ -207,7 +207,7 @@ left_more : {setup : Setup} (before now new : Report) (s t : SessionView) (reads
 left_more {setup} before now new s t reads chunk r w x =
     w.left x ∙ (r.b.left (chunk ++ x) ∙ ap (λ xs. state_from (initial_state_under setup) (lines xs)) (sym (append_assoc r.b.read chunk x)))
 
--- what was said after a chunk
+-- the calls before and after a chunk
 stands_quiet : {setup : Setup} (before now : Report) (s : SessionView) (reads : ℕ) (chunk : List ℕ) (r : IsRead setup before now s reads chunk) → 0 < length chunk → after_calls no_call r.calls ≡ quiet (r.b.read ++ chunk) (reads + 1) r.b.made
 stands_quiet {setup} before now s reads chunk r some =
     r.stands ∙ ap (λ o. record (quiet (r.b.read ++ chunk) (reads + 1) r.b.made) { outcome = o }) (read_goes_on chunk some)
@@ -269,7 +269,7 @@ talks_over {setup} before now new s t reads chunk done r some w over =
     let all : r.b.made ++ w.made ≡ replies_under setup (r.b.read ++ chunk) = all_said before now new s t reads chunk r w over in
     talks_at setup before.calls new.calls (r.calls ++ w.written.calls) _ (Ok done) (called_then before.calls now.calls new.calls r.calls w.written.calls r.called w.written.called) (said_dialogue before now new s reads chunk w.made _ _ r some w.written) (said_stands before now new s reads chunk w.made _ _ r some w.written) ([], sym all ∙ sym (append-nil (r.b.made ++ w.made))) ((all, refl), inr (refl, is_over before now new s t reads chunk r w over))
 
--- a fault while a chunk was answered
+-- a fault came while a chunk was answered
 split_left : {setup : Setup} (before now : Report) (s : SessionView) (reads : ℕ) (chunk done left : List ℕ) (r : IsRead setup before now s reads chunk) → due s chunk ≡ done ++ left → replies_under setup (r.b.read ++ chunk) ≡ (r.b.made ++ done) ++ left
 split_left {setup} before now s reads chunk done left r e =
     sym (r.b.owed chunk) ∙ (ap (λ xs. r.b.made ++ xs) e ∙ sym (append_assoc r.b.made done left))
@@ -300,7 +300,7 @@ talks_chunk {setup} before now new s reads chunk fault r some (left, w) =
     let t : Talk = record { read = r.b.read ++ chunk; reads = reads + 1; written = r.b.made ++ w.done; is_flushed = w.is_flushed; outcome = asked_by fault } in
     talks_at setup before.calls new.calls (r.calls ++ w.said.calls) t (Err fault) (called_then before.calls now.calls new.calls r.calls w.said.calls r.called w.said.called) (said_dialogue before now new s reads chunk w.done _ _ r some w.said) (said_stands before now new s reads chunk w.done _ _ r some w.said) (left, split_left before now s reads chunk w.done left r w.split) (ends_by setup t fault refl)
 
--- the result of a run that passes a fault on
+-- the dialogue of a run that passes a fault on
 pub talks_passed : {setup : Setup} (old new : Option (List Call)) (given : Result (Unit {0}) StdioFault) (fault : StdioFault) → IsErrAnd given (λ e. e ≡ fault) → Talks setup old new (Err fault) → Talks setup old new given
 talks_passed {setup} old new (Ok done) fault same t = absurd same
 talks_passed {setup} old new (Err e) fault same t = rw same t

@@ -1,4 +1,4 @@
--- A chunk that is answered line by line.
+-- A chunk answered line by line.
 use Rattle.std.proofs.Common.{◌≡◌, ℕ, ◌+◌, ◌≤◌, List, [], ◌++◌, length, refl, sym, ap, ◌∙◌, append_assoc, append-nil, true, false, arith}
 use Rattle.std.proofs.lemmas.List.{length-append}
 use Rattle.usi_session.specs.declared.limits.TheConstants.{CHUNK_MAX}
@@ -21,7 +21,7 @@ line_answers before mid after line old new fed left w settled = record {
   settled = settled;
 }
 
--- of a chunk this rest is left: the answers to what came before it were written, and what is owed with it is owed still
+-- the lines of a chunk before `rest` are answered: their answers are written, and the replies due with `rest` are still due
 pub record IsAnsweredTo (rest : List ℕ) (before now : SessionView) (chunk : List ℕ) (old new : Report) : Type 0 where
   pub made : List ℕ
   pub written : Says old new made
@@ -31,7 +31,7 @@ pub record IsAnsweredTo (rest : List ℕ) (before now : SessionView) (chunk : Li
   pub settled : is_pending now ≡ false
   pub few : length rest ≤ CHUNK_MAX
 
--- before the first line
+-- the chunk before its first line
 pub lines_start : (s : SessionView) (chunk : List ℕ) (old : Report) → wants_input s ≡ true → s.queued ≡ [] → length chunk ≤ CHUNK_MAX → IsAnsweredTo chunk s s chunk old old
 lines_start s chunk old wants empty most = record {
   made = [];
@@ -43,11 +43,11 @@ lines_start s chunk old wants empty most = record {
   few = most;
 }
 
--- with further bytes, a line and what is behind it
+-- a line and the bytes behind it, with further bytes
 behind : (rest line after x : List ℕ) → rest ≡ line ++ after → rest ++ x ≡ line ++ (after ++ x)
 behind rest line after x split = ap (λ xs. xs ++ x) split ∙ append_assoc line after x
 
--- one line more
+-- one more line is answered
 pub lines_more : (before mid now : SessionView) (chunk rest line after : List ℕ) (old part new : Report) → IsAnsweredTo rest before mid chunk old part → rest ≡ line ++ after → Answers mid now line part new → IsAnsweredTo after before now chunk old new
 lines_more before mid now chunk rest line after old part new a split w = record {
   made = a.made ++ w.made;
@@ -70,7 +70,7 @@ lines_done before now chunk rest old new a none = record {
   settled = a.settled;
 }
 
--- the session is over: the lines that are left change nothing
+-- the session is over: further lines change nothing
 pub lines_over : (before now : SessionView) (chunk rest : List ℕ) (old new : Report) → IsAnsweredTo rest before now chunk old new → now.state.is_over ≡ true → Answers before now chunk old new
 lines_over before now chunk rest old new a over = record {
   made = a.made;
@@ -81,7 +81,7 @@ lines_over before now chunk rest old new a over = record {
   settled = a.settled;
 }
 
--- a line was cut short by a fault
+-- a fault cut a line's answer short
 pub lines_prefix : (before mid : SessionView) (chunk rest line after : List ℕ) (old part new : Report) (fault : StdioFault) → IsAnsweredTo rest before mid chunk old part → rest ≡ line ++ after → ((x : List ℕ) → SaysPrefix part new (due mid (line ++ x)) fault) → SaysPrefix old new (due before chunk) fault
 lines_prefix before mid chunk rest line after old part new fault a split front =
     said_prefix old part new a.made (due mid (line ++ after)) (due before chunk) fault a.written (front after) (sym (ap (λ xs. due before xs) (append-nil chunk)) ∙ (a.owed [] ∙ ap (λ xs. a.made ++ due mid xs) (append-nil rest ∙ split)))

@@ -1,4 +1,4 @@
--- What a memory was told, slice by slice, line by line and chunk by chunk.
+-- What a memo was told, slice by slice, line by line and chunk by chunk.
 use Rattle.std.proofs.Common.{◌≡◌, ◌∙◌, ℕ, List, [], ◌∷◌, ◌++◌, Bool, true, false, cond, Option, Result, Ok, Err, refl, sym, ap, subst, take, append_assoc, append-nil}
 use Rattle.std.specs.Prelude.{OnOk, flat_map}
 use Rattle.std.specs.Io.KnownBytes.{Consumes}
@@ -18,12 +18,12 @@ use Rattle.usi_stdio.specs.Remembered.{TellsFed, TellsMemory, TellsTable, roots_
 use Rattle.usi_stdio.specs.Saying.{IsWritten, Says}
 use Rattle.usi_stdio.proofs.Talking.{called_then, gives_nothing, moves_more, says_nothing}
 
--- what follows from what holds after a success
+-- a consequence of what holds after a success
 pub on_ok : {T E : Type 0} {P Q : Type 0} (r : Result T E) → (P → Q) → OnOk r P → OnOk r Q
 on_ok (Ok x) f p = f p
 on_ok (Err e) f p = tt
 
--- writing what is queued changes no search
+-- writing queued bytes changes no search
 pub told_written : {M : Type 0} (called : M → Call → M → Type 0) (a b : M) (s mid t : SessionView) (old new : Report)
     → EndsSearches called a b s mid → IsWritten mid t old new → EndsSearches called a b s t
 told_written called a b s mid t old new told w =
@@ -39,7 +39,7 @@ told_fed called a b before mid after line fed told = record {
   told = told.told;
 }
 
--- of a chunk this rest is left
+-- the searches for the lines of a chunk before `rest` have ended
 abbrev pub TellsUpTo : {M : Type 0} → (M → Call → M → Type 0) → M → M → SessionView → List ℕ → SessionView → List ℕ → Type 0
 TellsUpTo called old new before chunk now rest =
     TellsEndedFor called old new (λ x. roots_due before (chunk ++ x)) (λ x. roots_due now (rest ++ x))
@@ -47,7 +47,7 @@ TellsUpTo called old new before chunk now rest =
 behind : (rest line after x : List ℕ) → rest ≡ line ++ after → rest ++ x ≡ line ++ (after ++ x)
 behind rest line after x split = ap (λ xs. xs ++ x) split ∙ append_assoc line after x
 
--- one line more
+-- one more line is answered
 pub told_line : {M : Type 0} (called : M → Call → M → Type 0) (a b c : M) (before mid now : SessionView) (chunk rest line after : List ℕ)
     → TellsUpTo called a b before chunk mid rest → rest ≡ line ++ after → TellsFed called b c mid line now
     → TellsUpTo called a c before chunk now after
@@ -71,7 +71,7 @@ told_done called a b before now chunk rest h none = record {
 roots-over : (s : SessionView) (x : List ℕ) → s.state.is_over ≡ true → roots_due s x ≡ []
 roots-over s x over = ap (λ (b : Bool). cond b [] (roots_ahead s.state s.go_task (ahead s.input x))) over
 
--- the session is over: the lines that are left search nothing
+-- the session is over: further lines search nothing
 pub told_over : {M : Type 0} (called : M → Call → M → Type 0) (a b : M) (before now : SessionView) (chunk rest : List ℕ)
     → TellsUpTo called a b before chunk now rest → now.state.is_over ≡ true → TellsFed called a b before chunk now
 told_over called a b before now chunk rest h over = record {
@@ -80,7 +80,7 @@ told_over called a b before now chunk rest h over = record {
   told = h.told;
 }
 
--- between two reads: the searches of what was read ended, or are left
+-- between two reads: each search for the bytes read has ended, or is left
 pub record IsToldOf {M : Type 0} (called : M → Call → M → Type 0) (setup : Setup) (before now : Report) (old new : M) (s : SessionView) : Type 0 where
   pub read : List ℕ
   pub consumed : Consumes before.unread now.unread read
@@ -89,7 +89,7 @@ pub record IsToldOf {M : Type 0} (called : M → Call → M → Type 0) (setup :
   pub left : (x : List ℕ) → roots_under setup (read ++ x) ≡ ended ++ roots_due s x
   pub told : AreTold called old ended new
 
--- before the first read
+-- a run before its first read
 pub told_start : {M : Type 0} (called : M → Call → M → Type 0) (setup : Setup) (r : Report) (a : M) (s : SessionView)
     → s ≡ new_session_under setup → IsToldOf called setup r r a a s
 unfolding AreTold
@@ -129,7 +129,7 @@ all_told : {M : Type 0} (called : M → Call → M → Type 0) (setup : Setup) (
 all_told called setup before now a b s h settled =
     sym (append-nil h.ended) ∙ (ap (λ (roots : List Root). h.ended ++ roots) (sym (no_roots s settled)) ∙ (sym (h.left []) ∙ ap (roots_under setup) (append-nil h.read)))
 
--- all that was read is answered
+-- all bytes read are answered
 pub told_all : {M : Type 0} (called : M → Call → M → Type 0) (setup : Setup) (before now : Report) (a b : M) (s : SessionView)
     → IsToldOf called setup before now a b s → is_pending s ≡ false → TellsMemory called setup before now a b
 told_all called setup before now a b s h settled = record {
@@ -148,7 +148,7 @@ told_at_end called setup before mid now a b s n buf h r none settled =
     let nothing : h.read ++ take n buf ≡ h.read = ap (λ (k : ℕ). h.read ++ take k buf) none ∙ append-nil h.read in
     told_all called setup before now a b s (record { read = h.read; consumed = rw nothing at read; given = rw nothing at given; ended = h.ended; left = h.left; told = h.told }) settled
 
--- a new table was told
+-- a new table was told each search
 pub told_table : {T E : Type 0} (r : Result T E) (setup : Setup) (entries : ℕ) (before after : Report) (old new : Table)
     → old ≡ new_table entries → new.capacity ≡ old.capacity → OnOk r (TellsMemory IsUsed setup before after old new) → OnOk r (TellsTable setup entries before after)
 told_table (Ok x) setup entries before after old new is kept told = record {

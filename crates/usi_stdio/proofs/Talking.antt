@@ -21,7 +21,7 @@ called_then (Some before) b c x y p q =
     let r : Makes (Some (before ++ x)) c y = rw p at q in
     r ∙ ap (λ (l : List Call). Some l) (append_assoc before x y)
 
--- the calls of two stretches, one after the other
+-- two stretches of calls in a row
 pub after_both : (t : Talk) (x y : List Call) → after_calls t (x ++ y) ≡ after_calls (after_calls t x) y
 after_both t [] y = refl
 after_both t (c ∷ x) y = after_both (after_call t c) x y
@@ -30,7 +30,7 @@ pub dialogue_both : (setup : Setup) (t : Talk) (x y : List Call) → IsDialogue 
 dialogue_both setup t [] y p q = q
 dialogue_both setup t (c ∷ x) y p q = (p.0, p.1, dialogue_both setup (after_call t c) x y p.2 q)
 
--- one call more
+-- one more call
 pub dialogue_call : (setup : Setup) (t : Talk) (x : List Call) (c : Call) → IsDialogue setup t x → (after_calls t x).outcome ≡ None → MayFollow setup (after_calls t x) c → IsDialogue setup t (x ++ (c ∷ []))
 dialogue_call setup t x c p none may = dialogue_both setup t x (c ∷ []) p (none, may, tt)
 
@@ -39,12 +39,12 @@ after_one t x c = after_both t x (c ∷ [])
 
 -- ---- the bytes of calls
 
--- the bytes of further calls come behind those of the calls before
+-- the bytes of further calls come behind those of earlier ones
 pub moves_more : (bytes_of : Call → List ℕ) (a b : Option (List Call)) (calls : List Call) → Makes a b calls → Appends (of_calls bytes_of a) (of_calls bytes_of b) (flat_map bytes_of calls)
 moves_more bytes_of None b calls m = tt
 moves_more bytes_of (Some before) b calls m = rw m (flat_map-append bytes_of before calls)
 
--- what was read and written after some calls
+-- the bytes read and written after some calls
 moves_after : (t : Talk) (calls : List Call) → ((after_calls t calls).read ≡ t.read ++ flat_map given_by calls) × ((after_calls t calls).written ≡ t.written ++ flat_map taken_by calls)
 moves_after t [] = (sym (append-nil t.read), sym (append-nil t.written))
 moves_after t (Read bytes ∷ rest) =
@@ -66,7 +66,7 @@ pub takes_at : (old new : Option (List Call)) (calls : List Call) (t : Talk) →
 takes_at old new calls t called stands =
     subst (λ bytes. Appends (of_calls taken_by old) (of_calls taken_by new) bytes) (sym (moves_after no_call calls).1 ∙ ap (λ (u : Talk). u.written) stands) (moves_more taken_by old new calls called)
 
--- what is written between two reads gives nothing
+-- the calls between two reads give no bytes
 pub gives_nothing : (calls : List Call) (bytes : List ℕ) (f : Bool) (o : Option (Result (Unit {0}) StdioFault)) → Speaks calls bytes f o → flat_map given_by calls ≡ []
 gives_nothing calls bytes f o p = sym (moves_after (quiet [] 0 []) calls).0 ∙ ap (λ (t : Talk). t.read) (p.after [] 0 [])
 
@@ -79,7 +79,7 @@ pub write_goes_on : (bytes : List ℕ) → 0 < length bytes → asked_by_write b
 write_goes_on [] h = absurd (omega arith)
 write_goes_on (b ∷ rest) h = refl
 
--- what is written between two reads
+-- no call between two reads
 pub speaks_nothing : Speaks [] [] true None
 speaks_nothing = record {
   dialogue = λ setup read reads written. tt;
@@ -96,7 +96,7 @@ speaks_then x y bs cs f o p q = record {
 abbrev between : (read : List ℕ) (reads : ℕ) (written : List ℕ) → Bool → Option (Result (Unit {0}) StdioFault) → Talk
 between read reads written f o = record { read = read; reads = reads; written = written; is_flushed = f; outcome = o }
 
--- one write more, which took these bytes
+-- one more write, which took these bytes
 pub speaks_write : (x : List Call) (bs b : List ℕ) (f : Bool) (o : Option (Result (Unit {0}) StdioFault)) → Speaks x bs f None → asked_by_write b ≡ o → Speaks (x ++ (Write b ∷ [])) (bs ++ b) false o
 speaks_write x bs b f o p e = record {
   dialogue = λ setup read reads written. dialogue_call setup (quiet read reads written) x (Write b) (p.dialogue setup read reads written) (ap (λ (t : Talk). t.outcome) (p.after read reads written)) tt;
@@ -109,7 +109,7 @@ speaks_flush x bs f p = record {
   after = λ read reads written. after_one (quiet read reads written) x Flush ∙ ap (λ t. after_call t Flush) (p.after read reads written);
 }
 
--- a write or a flush that failed
+-- a write or a flush failed
 pub speaks_failed_write : (x : List Call) (bs : List ℕ) (f : Bool) → Speaks x bs f None → Speaks (x ++ (FailedWrite ∷ [])) bs f (Some (Err WriteFailed))
 speaks_failed_write x bs f p = record {
   dialogue = λ setup read reads written. dialogue_call setup (quiet read reads written) x FailedWrite (p.dialogue setup read reads written) (ap (λ (t : Talk). t.outcome) (p.after read reads written)) tt;
@@ -132,7 +132,7 @@ says_nothing r = record {
   spoken = speaks_nothing;
 }
 
--- one stretch after another
+-- two stretches of writes in a row
 pub says_then : (old mid new : Report) (bs cs : List ℕ) (f : Bool) (o : Option (Result (Unit {0}) StdioFault)) → Says old mid bs → SaysTo f o mid new cs → SaysTo f o old new (bs ++ cs)
 says_then old mid new bs cs f o p q = record {
   unread = q.unread ∙ p.unread;

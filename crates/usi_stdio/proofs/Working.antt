@@ -23,16 +23,16 @@ prefix_of_more old new bytes more all fault (left, w) e = (
 pub prefix_none : (r : Report) (all : List ℕ) → SaysPrefix r r all OutOfMemory
 prefix_none r all = (all, record { done = []; is_flushed = true; said = says_nothing r; split = refl })
 
--- what is queued, and then what is owed without it
+-- the replies due are the queued ones, and those due without the queue
 pub due-queued : (s : SessionView) (x : List ℕ) → due s x ≡ s.queued ++ due (record s { queued = [] }) x
 due-queued s x = refl
 
--- a prefix of what is queued is a prefix of what is owed, whatever bytes follow
+-- a prefix of the queue is a prefix of the replies due, for any further bytes
 pub prefix_of_due : (old new : Report) (before mid : SessionView) (fault : StdioFault) → ((x : List ℕ) → due mid x ≡ due before x) → SaysPrefix old new mid.queued fault → (x : List ℕ) → SaysPrefix old new (due before x) fault
 prefix_of_due old new before mid fault kept front x =
     prefix_of_more old new mid.queued (due (record mid { queued = [] }) x) (due before x) fault front (sym (kept x) ∙ due-queued mid x)
 
--- a prefix of what is owed once a line was fed is a prefix of what was owed with it
+-- a prefix of the replies due after a line was fed is one of those due with the line
 pub prefix_of_fed : (old new : Report) (before mid : SessionView) (line : List ℕ) (fault : StdioFault) → ((x : List ℕ) → due mid x ≡ due before (line ++ x)) → ((x : List ℕ) → SaysPrefix old new (due mid x) fault) → (x : List ℕ) → SaysPrefix old new (due before (line ++ x)) fault
 prefix_of_fed old new before mid line fault fed front x = (
   (front x).0,
@@ -44,11 +44,11 @@ prefix_of_fed old new before mid line fault fed front x = (
   },
 )
 
--- before the first slice
+-- a session before its first slice
 pub worked_start : (s : SessionView) (r : Report) → s.queued ≡ [] → IsWorkedOn s s r r
 worked_start s r empty = record { made = []; written = says_nothing r; left = λ x. refl; owed = λ x. refl; empty = empty }
 
--- one slice more
+-- one more slice
 pub worked_more : (before mid after : SessionView) (old part new : Report) → IsWorkedOn before mid old part → IsWorkedOn mid after part new → IsWorkedOn before after old new
 worked_more before mid after old part new a b = record {
   made = a.made ++ b.made;
@@ -58,7 +58,7 @@ worked_more before mid after old part new a b = record {
   empty = b.empty;
 }
 
--- what was said, and then a prefix
+-- bytes were written in full, then a prefix of others
 pub said_prefix : (old part new : Report) (said bytes all : List ℕ) (fault : StdioFault) → Says old part said → SaysPrefix part new bytes fault → all ≡ said ++ bytes → SaysPrefix old new all fault
 said_prefix old part new said bytes all fault p (left, w) e = (
   left,
@@ -70,16 +70,16 @@ said_prefix old part new said bytes all fault p (left, w) e = (
   },
 )
 
--- the slice was cut short by a fault
+-- a fault cut a slice short
 pub worked_prefix : (before mid : SessionView) (old part new : Report) (fault : StdioFault) → IsWorkedOn before mid old part → ((x : List ℕ) → SaysPrefix part new (due mid x) fault) → (x : List ℕ) → SaysPrefix old new (due before x) fault
 worked_prefix before mid old part new fault a front x = said_prefix old part new a.made (due mid x) (due before x) fault a.written (front x) (a.owed x)
 
--- what holds after a fault, and after one that is passed on
+-- a property that holds anyway holds after a fault
 pub on_err : {T E : Type 0} {P : Type 0} (r : Result T E) → P → OnErr r P
 on_err (Ok x) h = tt
 on_err (Err e) h = h
 
--- what follows from two things that hold after a success
+-- a consequence of two properties that hold after a success
 pub on_ok_both : {T E : Type 0} {P Q R : Type 0} (r : Result T E) → (P → Q → R) → OnOk r P → OnOk r Q → OnOk r R
 on_ok_both (Ok x) f p q = f p q
 on_ok_both (Err e) f p q = tt

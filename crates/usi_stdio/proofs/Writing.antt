@@ -1,4 +1,4 @@
--- Bytes that are written in several writes.
+-- Bytes written in several writes.
 use Rattle.std.proofs.Common.{◌≡◌, ◌<◌, ◌≤◌, ℕ, List, [], ◌∷◌, ◌++◌, true, false, Option, None, Some, Result, Ok, Err, Bool, refl, sym, ap, ◌∙◌, append_assoc, append-nil, length, take, drop, arith}
 use Rattle.std.proofs.lemmas.List.{take-append-drop, length-take}
 use Rattle.std.specs.Io.KnownBytes.{Keeps, Appends}
@@ -14,7 +14,7 @@ use Rattle.usi_stdio.proofs.Talking.{says_nothing, called_then, write_goes_on, s
 pub writes_start : (old : Report) (bytes : List ℕ) → SaysBut None old old bytes bytes
 writes_start old bytes = record { done = []; is_flushed = true; said = says_nothing old; split = refl }
 
--- one call more
+-- one more call
 said_more : (old mid new : Report) (done all : List ℕ) (f g : Bool) (o : Option (Result (Unit {0}) StdioFault)) (call : Call) (said : SaysTo f None old mid done)
     → new.unread ≡ mid.unread → Appends old.written new.written all → Makes mid.calls new.calls (call ∷ []) → Speaks (said.calls ++ (call ∷ [])) all g o → SaysTo g o old new all
 said_more old mid new done all f g o call said unread written called spoken = record {
@@ -25,7 +25,7 @@ said_more old mid new done all f g o call said unread written called spoken = re
   spoken = spoken;
 }
 
--- one write more took so many bytes of what was left, and asked for this
+-- one more write took n of the bytes left, and asked for this result
 wrote : {E : Type 0} (old mid new : Report) (bytes rest : List ℕ) (n : ℕ) (o : Option (Result (Unit {0}) StdioFault)) → SaysBut None old mid bytes rest → Writes {E = E} mid new (Ok n) rest → asked_by_write (take n rest) ≡ o → SaysBut o old new bytes (drop n rest)
 wrote old mid new bytes rest n o w more e = record {
   done = w.done ++ take n rest;
@@ -42,11 +42,11 @@ writes_more old mid new bytes rest n w more h = wrote old mid new bytes rest n N
 pub writes_none : {E : Type 0} (old mid new : Report) (bytes rest : List ℕ) (n : ℕ) → n ≡ 0 → SaysBut None old mid bytes rest → Writes {E = E} mid new (Ok n) rest → SaysPrefix old new bytes WriteFailed
 writes_none old mid new bytes rest n none w more = (drop n rest, wrote old mid new bytes rest n (Some (Err WriteFailed)) w more (ap (λ k. asked_by_write (take k rest)) none))
 
--- a write that took some bytes
+-- a write took some bytes
 pub some_taken : (n : ℕ) (rest : List ℕ) → (n ≡ 0 → ⊥) → n ≤ length rest → 0 < length (take n rest)
 some_taken n rest some most = simp length-take (omega arith)
 
--- one call more, which failed
+-- one more call failed
 call_failed : (old mid new : Report) (bytes rest : List ℕ) (call : Call) (w : SaysBut None old mid bytes rest)
     → new.unread ≡ mid.unread → Keeps mid.written new.written → Makes mid.calls new.calls (call ∷ []) → Speaks (w.said.calls ++ (call ∷ [])) w.done w.is_flushed (Some (Err WriteFailed)) → SaysPrefix old new bytes WriteFailed
 call_failed old mid new bytes rest call w unread written called spoken = (
@@ -67,7 +67,7 @@ writes_failed old mid new bytes rest error w more = call_failed old mid new byte
 pub flush_failed : {E : Type 0} (old mid new : Report) (bytes rest : List ℕ) (error : E) → SaysBut None old mid bytes rest → Flushes mid new (Err error) → SaysPrefix old new bytes WriteFailed
 flush_failed old mid new bytes rest error w more = call_failed old mid new bytes rest FailedFlush w more.unread more.written more.called (speaks_failed_flush w.said.calls w.done w.is_flushed w.said.spoken)
 
--- all was written and flushed
+-- all bytes were written and flushed
 pub flushed : {E : Type 0} (old mid new : Report) (bytes rest : List ℕ) (done : Unit {0}) → rest ≡ [] → SaysBut None old mid bytes rest → Flushes {E = E} mid new (Ok done) → Says old new bytes
 flushed old mid new bytes rest done none w more =
     let all : w.done ≡ bytes = sym (w.split ∙ (ap (λ xs. w.done ++ xs) none ∙ append-nil w.done)) in

@@ -1,8 +1,8 @@
--- What a front end reports of its bytes and its calls, and what each call does to that (own choice).
+-- What a front end reports of its bytes and its calls, and how each call changes the report (own choice).
 use Rattle.std.specs.Prelude.{◌≡◌, ◌≤◌, ℕ, List, [], ◌∷◌, ◌++◌, flat_map, length, take, ⊤, Option, None, Some, Result, Ok, Err, IfOk}
 use Rattle.std.specs.Io.KnownBytes.{Appends, Keeps, ReadConsumes, WriteAppends}
 
--- a call with what came of it: a read that gave these bytes, none of them where the input ended, a write of which these bytes were taken, a flush, and each of them where it failed
+-- a call and its outcome: a read that gave these bytes, none at the end of the input; a write that took these bytes; a flush; or a failed one of each
 pub data Call : Type 0 where
   Read : (bytes : List ℕ) → Call
   Write : (bytes : List ℕ) → Call
@@ -11,17 +11,17 @@ pub data Call : Type 0 where
   FailedWrite : Call
   FailedFlush : Call
 
--- the bytes that reads will give from here on, the bytes that writes took, and the calls so far; `None` where the front end does not report it
+-- the report of a front end: the bytes still to be read, the bytes written, and the calls so far; `None` for each that is not reported
 pub record Report : Type 0 where
   pub unread : Option (List ℕ)
   pub written : Option (List ℕ)
   pub calls : Option (List Call)
 
--- a front end that reports nothing
+-- the report of a front end that reports nothing
 abbrev pub nothing_reported : Report
 nothing_reported = record { unread = None; written = None; calls = None }
 
--- where calls are reported, these were made since
+-- these calls were made since, if calls are reported
 abbrev pub Makes : Option (List Call) → Option (List Call) → List Call → Type 0
 Makes None new calls = ⊤
 Makes (Some before) new calls = new ≡ Some (before ++ calls)
@@ -35,16 +35,16 @@ abbrev pub taken_by : Call → List ℕ
 taken_by (Write bytes) = bytes
 taken_by _ = []
 
--- those of all calls so far, where calls are reported
+-- the bytes of all calls so far, if calls are reported
 abbrev pub of_calls : (Call → List ℕ) → Option (List Call) → Option (List ℕ)
 of_calls bytes_of None = None
 of_calls bytes_of (Some calls) = Some (flat_map bytes_of calls)
 
--- where calls are reported, those made since gave these bytes
+-- the calls made since gave these bytes, if calls are reported
 abbrev pub Gives : Option (List Call) → Option (List Call) → List ℕ → Type 0
 Gives old new bytes = Appends (of_calls given_by old) (of_calls given_by new) bytes
 
--- the same of those that they took
+-- the calls made since took these bytes, if calls are reported
 abbrev pub Takes : Option (List Call) → Option (List Call) → List ℕ → Type 0
 Takes old new bytes = Appends (of_calls taken_by old) (of_calls taken_by new) bytes
 
@@ -75,7 +75,7 @@ pub record Writes {E : Type 0} (old new : Report) (result : Result ℕ E) (bytes
   pub unread : new.unread ≡ old.unread
   pub called : Makes old.calls new.calls (write_call result bytes ∷ [])
 
--- a flush, or one that failed; no byte moved
+-- a flush was made, or failed; no byte moved
 pub record Flushes {E : Type 0} (old new : Report) (result : Result (Unit {0}) E) : Type 0 where
   pub unread : new.unread ≡ old.unread
   pub written : Keeps old.written new.written

@@ -1,4 +1,4 @@
--- The calls of a run in their order: what is due is written and flushed before more is read, and the result is what the last call asks for (own choice).
+-- The calls of a run in their order: replies due are written and flushed before more is read, and the result is the one that the last call asks for (own choice).
 use Rattle.std.specs.Prelude.{◌≡◌, ◌+◌, ◌-◌, ◌^◌, ◌⊎◌, ℕ, List, [], ◌∷◌, ◌++◌, Bool, true, false, Option, None, Some, Result, Ok, Err}
 use Rattle.usi_texts.specs.declared.setup.Setup.{Setup}
 use Rattle.usi_session.specs.WholeStream.{replies_under, is_over_after_under}
@@ -6,7 +6,7 @@ use Rattle.usi_stdio.specs.Calls.{Call, Read, Write, Flush, FailedRead, FailedWr
 use Rattle.usi_stdio.specs.declared.streams.StdioFault.{StdioFault}
 use Rattle.usi_stdio.specs.declared.streams.StdioFault.TheVariants as fault
 
--- a run after some of its calls: what was read and in how many reads, what was written, whether that was flushed, and the result that the last call asks for, if any
+-- a run after some of its calls: the bytes read and the number of reads, the bytes written and whether they are flushed, and the result that the last call asks for, if any
 pub record Talk : Type 0 where
   pub read : List ℕ
   pub reads : ℕ
@@ -14,11 +14,11 @@ pub record Talk : Type 0 where
   pub is_flushed : Bool
   pub outcome : Option (Result (Unit {0}) StdioFault)
 
--- before the first call
+-- a run before its first call
 abbrev pub no_call : Talk
 no_call = record { read = []; reads = 0; written = []; is_flushed = true; outcome = None }
 
--- a read that gives nothing is the end of the input
+-- a read that gives nothing ends the input
 abbrev pub asked_by_read : List ℕ → Option (Result (Unit {0}) StdioFault)
 asked_by_read [] = Some (Ok tt)
 asked_by_read (byte ∷ rest) = None
@@ -50,11 +50,11 @@ abbrev pub after_calls : Talk → List Call → Talk
 after_calls talk [] = talk
 after_calls talk (call ∷ rest) = after_calls (after_call talk call) rest
 
--- all replies to what was read, under a setup, are written and flushed
+-- all replies to the bytes read, under a setup, are written and flushed
 abbrev pub IsSettled : Setup → Talk → Type 0
 IsSettled setup talk = (talk.written ≡ replies_under setup talk.read) × (talk.is_flushed ≡ true)
 
--- nothing is read before all is settled, nor once the session is over
+-- nothing is read before all replies are written and flushed, nor after the session is over
 abbrev pub MayFollow : Setup → Talk → Call → Type 0
 MayFollow setup talk (Read bytes) =
     IsSettled setup talk × (is_over_after_under setup talk.read ≡ false)
@@ -71,7 +71,7 @@ IsDialogue setup talk [] = Unit {0}
 IsDialogue setup talk (call ∷ rest) =
     (talk.outcome ≡ None) × MayFollow setup talk call × IsDialogue setup (after_call talk call) rest
 
--- a success comes at the end of the input or of the session, once all is settled; a fault is that of the last call, but for want of memory, and for a read beyond the greatest number of them
+-- success: the input or the session has ended, and all replies are written and flushed. A fault is the one that the last call asked for, but for `OutOfMemory`, and for `ReadFailed` after 2^64 - 1 reads
 abbrev pub EndsAs : Setup → Talk → Result (Unit {0}) StdioFault → Type 0
 EndsAs setup talk (Ok done) =
     IsSettled setup talk
@@ -83,11 +83,11 @@ EndsAs setup talk (Err fault.ReadFailed) =
     (talk.outcome ≡ Some (Err fault.ReadFailed))
     ⊎ ((talk.outcome ≡ None) × (talk.reads ≡ 2 ^ 64 - 1))
 
--- what was written begins the replies to what was read
+-- the bytes written are a prefix of the replies to the bytes read
 abbrev pub IsFront : Setup → Talk → Type 0
 IsFront setup talk = (left : List ℕ) × (replies_under setup talk.read ≡ talk.written ++ left)
 
--- where calls are reported, the run is a dialogue that ends with this result
+-- if calls are reported, the run is a dialogue that ends with this result
 pub record Talks (setup : Setup) (old new : Option (List Call))
     (result : Result (Unit {0}) StdioFault) : Type 0 where
   pub calls : List Call

@@ -14,6 +14,6 @@ call_by kind.FailedRead bytes = FailedRead
 call_by kind.FailedWrite bytes = FailedWrite
 call_by kind.FailedFlush bytes = FailedFlush
 
--- the calls that were noted
+-- the calls noted
 abbrev pub calls_of : List (CallKind × Bytes) → List Call
 calls_of noted = map (λ pair. call_by pair.0 pair.1.items) noted

@@ -1,4 +1,4 @@
--- What the memory of a run was told: each search along a pv of the lines that were read (own choice).
+-- What the memo of a run was told: each search along a pv of the lines that were read (own choice).
 use Rattle.std.specs.Prelude.{◌≡◌, ℕ, List, ◌++◌}
 use Rattle.std.specs.Io.KnownBytes.{Consumes}
 use Rattle.shared_table.specs.Recent.{Table, new_table}
@@ -10,17 +10,17 @@ use Rattle.usi_session.specs.Roots.{Root}
 use Rattle.usi_session.specs.Told.{AreTold, TellsEndedFor}
 use Rattle.usi_stdio.specs.Calls.{Report, Gives}
 
--- the searches of a new session under a setup that is fed these bytes
+-- the pv searches of a new session under a setup that is fed these bytes
 abbrev pub roots_under : Setup → List ℕ → List Root
 roots_under setup bytes = roots_due (new_session_under setup) bytes
 
--- these bytes were fed: a memory was told the first of the searches that were to end with them
+-- these bytes were fed, and the memo was told the first of the searches to end with them
 abbrev pub TellsFed : {M : Type 0} → (M → Call → M → Type 0) → M → M → SessionView → List ℕ
     → SessionView → Type 0
 TellsFed called old new before bytes after =
     TellsEndedFor called old new (λ further. roots_due before (bytes ++ further)) (roots_due after)
 
--- a front end was served over a memory: that was told, one after another, each search of the bytes that were read
+-- a front end was served over a memo, which was told, in order, each search for the bytes read
 pub record TellsMemory {M : Type 0} (called : M → Call → M → Type 0) (setup : Setup)
     (before after : Report) (old new : M) : Type 0 where
   pub read : List ℕ
@@ -28,7 +28,7 @@ pub record TellsMemory {M : Type 0} (called : M → Call → M → Type 0) (setu
   pub given : Gives before.calls after.calls read
   pub told : AreTold called old (roots_under setup read) new
 
--- a new table with room for so many entries was told so
+-- a new table with room for `entries` entries was told each search for the bytes read
 pub record TellsTable (setup : Setup) (entries : ℕ) (before after : Report) : Type 0 where
   pub table : Table
   pub told : TellsMemory IsUsed setup before after (new_table entries) table

@@ -1,4 +1,4 @@
--- What is written between two reads (own choice).
+-- Writes between two reads (own choice).
 use Rattle.std.specs.Prelude.{◌≡◌, ◌+◌, ◌*◌, ℕ, List, [], ◌++◌, Bool, true, false, cond, Option, None, Some, Result, Err, IfErr}
 use Rattle.std.specs.Io.KnownBytes.{Appends}
 use Rattle.usi_texts.specs.declared.setup.Setup.{Setup}
@@ -8,7 +8,7 @@ use Rattle.usi_stdio.specs.Dialogue.{Talk, after_calls, IsDialogue}
 use Rattle.usi_stdio.specs.declared.streams.StdioFault.{StdioFault}
 use Rattle.usi_stdio.specs.declared.streams.StdioFault.TheVariants.{OutOfMemory, ReadFailed, WriteFailed}
 
--- all that was written is flushed, and no result is asked for
+-- all written bytes are flushed, and no result is asked for
 abbrev pub quiet : (read : List ℕ) (reads : ℕ) (written : List ℕ) → Talk
 quiet read reads written = record {
   read = read;
@@ -18,7 +18,7 @@ quiet read reads written = record {
   outcome = None;
 }
 
--- these calls follow where all is flushed, under any setup: they write these bytes and read none, leave them flushed or not, and this result asked for
+-- these calls follow a flush under any setup: they read nothing, write these bytes, leave them flushed or not, and ask for this result
 pub record Speaks (calls : List Call) (bytes : List ℕ) (is_flushed : Bool)
     (outcome : Option (Result (Unit {0}) StdioFault)) : Type 0 where
   pub dialogue : (setup : Setup) (read : List ℕ) (reads : ℕ) (written : List ℕ)
@@ -46,7 +46,7 @@ pub record SaysTo (is_flushed : Bool) (outcome : Option (Result (Unit {0}) Stdio
 abbrev pub Says : Report → Report → List ℕ → Type 0
 Says old new bytes = SaysTo true None old new bytes
 
--- the front end took the bytes but for those that are left
+-- the front end took the bytes except the last ones, `left`
 pub record SaysBut (outcome : Option (Result (Unit {0}) StdioFault)) (old new : Report)
     (bytes left : List ℕ) : Type 0 where
   pub done : List ℕ
@@ -54,7 +54,7 @@ pub record SaysBut (outcome : Option (Result (Unit {0}) StdioFault)) (old new : 
   pub said : SaysTo is_flushed outcome old new done
   pub split : bytes ≡ done ++ left
 
--- the result that the last call asks for where a run ends with this fault
+-- the result that the last call asks for if a run ends with this fault
 abbrev pub asked_by : StdioFault → Option (Result (Unit {0}) StdioFault)
 asked_by OutOfMemory = None
 asked_by ReadFailed = Some (Err ReadFailed)
@@ -64,17 +64,17 @@ asked_by WriteFailed = Some (Err WriteFailed)
 abbrev pub SaysPrefix : Report → Report → List ℕ → StdioFault → Type 0
 SaysPrefix old new bytes fault = (left : List ℕ) × SaysBut (asked_by fault) old new bytes left
 
--- the same of what is owed, whatever bytes follow these
+-- the front end took a prefix of the replies due, for any bytes after these, and the last call asked for this fault
 abbrev pub SaysPrefixOfDue : Report → Report → SessionView → List ℕ → StdioFault → Type 0
 SaysPrefixOfDue old new session bytes fault =
     (x : List ℕ) → SaysPrefix old new (due session (bytes ++ x)) fault
 
--- all that was queued was written and taken, and nothing else changed
+-- all queued bytes were written and taken, and nothing else changed
 pub record IsWritten (before after : SessionView) (old new : Report) : Type 0 where
   pub written : Says old new before.queued
   pub rest : after ≡ record before { queued = [] }
 
--- what was made was written at once: nothing waits, and the rest is owed
+-- the replies made were written at once: none is queued, and the rest is due
 pub record IsWorkedOn (before after : SessionView) (old new : Report) : Type 0 where
   pub made : List ℕ
   pub written : Says old new made
@@ -82,7 +82,7 @@ pub record IsWorkedOn (before after : SessionView) (old new : Report) : Type 0 w
   pub left : (x : List ℕ) → state_due after x ≡ state_due before x
   pub empty : after.queued ≡ []
 
--- falls with each slice, since a slice makes a step where something is pending after it
+-- a bound that falls with each slice, since a slice makes a step if something is pending after it
 abbrev pub slices_of : SessionView → ℕ
 slices_of s = 2 * load s + cond (is_pending s) 1 0
 
@@ -95,7 +95,7 @@ pub record Answers (before after : SessionView) (chunk : List ℕ) (old new : Re
   pub empty : after.queued ≡ []
   pub settled : is_pending after ≡ false
 
--- ---- the same of a front end of the code, by what it reports
+-- ---- the definitions above for a front end of the code, by its report
 
 module _ {F : Type 0} (report : F → Report) where
   abbrev pub Wrote : SessionView → SessionView → (old new : F) → Type 0
@@ -114,11 +114,11 @@ module _ {F : Type 0} (report : F → Report) where
   WrotePrefixOfDue old new session bytes fault =
       SaysPrefixOfDue (report old) (report new) session bytes fault
 
-  -- where it fails, the front end took a prefix of the bytes
+  -- on failure, the front end took a prefix of the bytes
   abbrev pub CutShort : Result (Unit {0}) StdioFault → (old new : F) → List ℕ → Type 0
   CutShort result old new bytes = IfErr result (WrotePrefix old new bytes)
 
-  -- the same of what is owed, whatever bytes follow these
+  -- on failure, the front end took a prefix of the replies due, for any bytes after these
   abbrev pub CutShortDue : Result (Unit {0}) StdioFault → (old new : F) → SessionView → List ℕ
       → Type 0
   CutShortDue result old new session bytes =

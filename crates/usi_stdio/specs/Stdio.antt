@@ -1,4 +1,4 @@
--- One session over a front end: what is written is what the session's replies are to what was read (own choice).
+-- One session over a front end: the bytes written are the session's replies to the bytes read (own choice).
 use Rattle.std.specs.Prelude.{◌≡◌, ℕ, ◌≤◌, length, List, ◌++◌, Option, ◌⊎◌, true, false}
 use Rattle.std.specs.Io.KnownBytes.{Appends, Consumes, IsAtEnd}
 use Rattle.usi_texts.specs.declared.setup.Setup.{Setup}
@@ -6,7 +6,7 @@ use Rattle.usi_session.specs.WholeStream.{replies_under, is_over_after_under}
 use Rattle.usi_session.specs.declared.limits.TheConstants.{CHUNK_MAX}
 use Rattle.usi_stdio.specs.Calls.{Report, Gives, Takes}
 
--- the writer took the bytes but for those that are left
+-- the writer took the bytes except the last ones, `left`
 pub record WritesBut (old new : Option (List ℕ)) (bytes left : List ℕ) : Type 0 where
   pub done : List ℕ
   pub appended : Appends old new done
@@ -24,7 +24,7 @@ pub record StopsInTime (setup : Setup) (read : List ℕ) : Type 0 where
   pub most : length chunk ≤ CHUNK_MAX
   pub alive : is_over_after_under setup prefix ≡ false
 
--- all replies to what was read, under a setup, were written, and the input ended or the session is over
+-- all replies to the bytes read, under a setup, were written, and the input ended or the session is over
 pub record IsAnswered (setup : Setup) (before after old new : Option (List ℕ)) : Type 0 where
   pub read : List ℕ
   pub consumed : Consumes before after read
@@ -32,14 +32,14 @@ pub record IsAnswered (setup : Setup) (before after old new : Option (List ℕ))
   pub ended : IsAtEnd after ⊎ (is_over_after_under setup read ≡ true)
   pub stops : StopsInTime setup read
 
--- a prefix of the replies to what was read was written
+-- a prefix of the replies to the bytes read was written
 pub record IsCutShort (setup : Setup) (before after old new : Option (List ℕ)) : Type 0 where
   pub read : List ℕ
   pub consumed : Consumes before after read
   pub written : TakesPrefix old new (replies_under setup read)
   pub stops : StopsInTime setup read
 
--- the same two of what a front end reports, of its bytes and of what its calls gave and took
+-- a front end was served, or left early, by its report: its bytes, and those that its calls gave and took
 pub record IsServed (setup : Setup) (old new : Report) : Type 0 where
   pub answered : IsAnswered setup old.unread new.unread old.written new.written
   pub given : Gives old.calls new.calls answered.read

@@ -1,4 +1,4 @@
-//! The front end of a session: what it sends is read, what it takes is written and flushed, and its
+//! The front end of a session: a source of bytes to read and a sink to write to and flush, whose
 //! calls come in one order.
 
 ghost use Rattle.std.specs.Prelude.{◌≡◌, [], ◌∷◌, ◌++◌};
@@ -11,19 +11,19 @@ use std::io::{Read, Result, Write};
 
 /// The front end of a session. A call that fails moves no byte.
 pub trait FrontEnd {
-    /// What it reports of its bytes and of its calls. It may report nothing.
+    /// The front end's report of its bytes and its calls. It may report nothing.
     ghost report: { Self → Report } = { λ _. nothing_reported };
 
-    /// Reads what comes next into the start of the buffer, which is not empty, and answers how many
-    /// bytes; 0 where the input ended.
+    /// Reads the next bytes into the start of the buffer, which is not empty, and returns their
+    /// number; 0 at the end of the input.
     fn read(&mut self, buf: &mut [u8]) -> Result<usize>
         ensures { Reads (report self.old) (report self.new) result buf.new };
 
-    /// Writes what is taken, a prefix of the bytes, and answers how many.
+    /// Writes a prefix of the bytes, and returns its length.
     fn write(&mut self, bytes: &[u8]) -> Result<usize>
         ensures { Writes (report self.old) (report self.new) result bytes.now };
 
-    /// Sends on all that was written.
+    /// Sends on all bytes written.
     fn flush(&mut self) -> Result<()>
         ensures { Flushes (report self.old) (report self.new) result };
 }
@@ -39,8 +39,8 @@ pub enum CallKind {
     FailedFlush,
 }
 
-/// A reader and a writer as one front end. It reports their bytes where they do, and its calls with
-/// what each moved, by a log that takes no memory.
+/// A reader and a writer as one front end. It reports their bytes if they do. A log that takes no
+/// memory reports its calls, with the bytes that each moved.
 #[derive(Drop)]
 pub struct Duplex<R, W> {
     pub input: R,
@@ -49,7 +49,7 @@ pub struct Duplex<R, W> {
 }
 
 impl<R, W> Duplex<R, W> {
-    /// No call was made of them.
+    /// A front end without a call so far.
     pub fn new(input: R, output: W) -> Duplex<R, W>
         ensures input { result.input ≡ input }
         ensures output { result.output ≡ output }

@@ -22,7 +22,7 @@ use usi_lines::cut_line;
 use usi_session::{CHUNK_MAX, Session, SessionFault};
 use usi_texts::Setup;
 
-/// The most steps of search before what is queued is written.
+/// The most steps of search before queued replies are written.
 pub const SLICE: u64 = 300;
 
 /// Why a run over a front end ended early.
@@ -31,7 +31,7 @@ pub enum StdioFault {
     /// Allocation failed.
     #[error("out of memory")]
     OutOfMemory,
-    /// A read failed, or there were 18,446,744,073,709,551,615 of them.
+    /// A read failed, or there were 18,446,744,073,709,551,615 reads.
     #[error("read failed")]
     ReadFailed,
     /// A write or a flush failed, or a write took nothing.
@@ -59,9 +59,9 @@ impl From<TableFault> for StdioFault {
     }
 }
 
-/// Writes the bytes, in as many writes as the front end needs, and flushes. It takes no memory. Its
-/// one fault is `WriteFailed`, where a write or the flush failed or a write took nothing; then a
-/// prefix of the bytes was written.
+/// Writes the bytes, in as many writes as the front end needs, and flushes. It takes no memory.
+/// `WriteFailed`, the only fault, comes if a write or the flush failed or a write took nothing; a
+/// prefix of the bytes was then written.
 pub fn write_out<T: FrontEnd>(front_end: &mut T, bytes: &[u8]) -> Result<(), StdioFault>
     ensures ok { OnOk result
         (Says (T.report front_end.old) (T.report front_end.new) bytes.now) }
@@ -82,7 +82,7 @@ pub fn write_out<T: FrontEnd>(front_end: &mut T, bytes: &[u8]) -> Result<(), Std
     }
 }
 
-/// Writes, flushes and takes all that is queued. Where nothing is, the front end is left alone.
+/// Writes, flushes and takes the queued bytes. If none are queued, the front end is left alone.
 fn write_queued<A: Allocator + Copy, T: FrontEnd>(
     session: &mut Session<A>,
     front_end: &mut T,
@@ -100,7 +100,7 @@ fn write_queued<A: Allocator + Copy, T: FrontEnd>(
     Ok(())
 }
 
-/// Works one slice, and writes what it queued.
+/// Works one slice, and writes the replies that it queued.
 fn work_slice<A: Allocator + Copy, M: Memo, T: FrontEnd>(
     session: &mut Session<A>,
     memo: &mut M,
@@ -119,7 +119,7 @@ fn work_slice<A: Allocator + Copy, M: Memo, T: FrontEnd>(
     write_queued(session, front_end)
 }
 
-/// Works off what was fed, slice by slice, and writes what each slice queued.
+/// Works off all pending lines, and writes the replies after each slice.
 fn work_off<A: Allocator + Copy, M: Memo, T: FrontEnd>(
     session: &mut Session<A>,
     memo: &mut M,
@@ -161,8 +161,8 @@ fn answer_line<A: Allocator + Copy, M: Memo, T: FrontEnd>(
     work_off(session, memo, front_end)
 }
 
-/// Feeds one chunk line by line, and writes the answer to each line before the next is fed. What
-/// comes behind a line that ends the session is passed over.
+/// Feeds a chunk line by line, and writes the answer to each line before it feeds the next. Bytes
+/// behind a line that ends the session are dropped.
 fn answer_chunk<A: Allocator + Copy, M: Memo, T: FrontEnd>(
     session: &mut Session<A>,
     memo: &mut M,
@@ -188,7 +188,7 @@ fn answer_chunk<A: Allocator + Copy, M: Memo, T: FrontEnd>(
     Ok(())
 }
 
-/// `stdio_with_setup` under the default setup.
+/// Runs one session under the default setup; see `stdio_with_setup`.
 pub fn stdio<A: Allocator + Copy, T: FrontEnd>(
     alloc: A,
     front_end: &mut T,
@@ -208,15 +208,15 @@ pub fn stdio<A: Allocator + Copy, T: FrontEnd>(
     stdio_with_setup(alloc, Setup::new(), front_end, entries)
 }
 
-/// Runs one session under a setup: reads chunks of at most 4,096 bytes and answers each before the next, until
-/// the input ends or the session is over. Replies are written and flushed as they are found: those
-/// to a line before the next line is looked at, and the info line of a depth before the next 300
-/// steps of search are made. Bytes after the last LF are no line, but for 65,536 or more, which are
-/// a line that is too long. The table has `entries` entries, from 1 to 1,000,000.
+/// Runs one session under a setup: reads chunks of at most 4,096 bytes and answers each before the
+/// next, until the input ends or the session is over. Replies are written and flushed as they are
+/// found: those to a line before the next line is looked at, and the info line of a depth before
+/// the next 300 steps of search. Bytes after the last LF are no line, but 65,536 or more of them
+/// are a line that is too long. The table has `entries` entries, from 1 to 1,000,000.
 ///
-/// `OutOfMemory` comes where allocation failed, `ReadFailed` where a read failed, and `WriteFailed`
-/// where a write or a flush failed or a write took nothing. After each of them what was written is
-/// a prefix of the replies to what was read.
+/// `OutOfMemory` comes if allocation failed, `ReadFailed` if a read failed, and `WriteFailed` if a
+/// write or a flush failed or a write took nothing. The bytes written are then a prefix of the
+/// replies to the bytes read.
 pub fn stdio_with_setup<A: Allocator + Copy, T: FrontEnd>(
     alloc: A,
     setup: Setup,
@@ -238,8 +238,8 @@ pub fn stdio_with_setup<A: Allocator + Copy, T: FrontEnd>(
     stdio_on(alloc, setup, front_end, &mut table)
 }
 
-/// Runs one session as `stdio_with_setup` does, over a memory that the caller keeps: a table, or
-/// `NoMemo`. After a success it was told each search along a pv of what was read.
+/// Runs one session as `stdio_with_setup` does, over a memo that the caller keeps: a table, or
+/// `NoMemo`. After a success the memo was told each search along a pv for the bytes read.
 pub fn stdio_on<A: Allocator + Copy, M: Memo, T: FrontEnd>(
     alloc: A,
     setup: Setup,

@@ -13,12 +13,12 @@ lines-init g c = record {
   capacity = refl;
 }
 
--- a line was cut short
+-- a fault cut a line's answer short
 pub returns-in_err-answer_line-clause-err : goal.returns-in_err-answer_line-clause-err
 returns-in_err-answer_line-clause-err g c =
     passed_on c.from_residual.result _ _ c.from_residual.ensures.1 (lines_prefix _ c.lines.session _ _ _ c.cut_line.result.1.now _ _ _ _ c.lines.invariant.answered c.cut_line.ensures.whole c.in_err-answer_line.ensures.err)
 
--- one line more
+-- one more line is answered
 pub lines-preserved : goal.lines-preserved
 lines-preserved g c = record {
   answered = lines_more _ c.lines.session _ _ _ _ _ _ _ _ c.lines.invariant.answered c.cut_line.ensures.whole c.in_ok-answer_line.ensures.answered;

@@ -3,7 +3,7 @@ use Rattle.usi_stdio.proofs.Lining.{IsAnsweredTo}
 use Rattle.usi_stdio.proofs.Remembering.{TellsUpTo}
 use Rattle.usi_stdio.proofs.streams.answer_chunk.Given as goal
 
--- the answers to the lines before the rest are written
+-- the answers to the lines before `rest` are written
 abbrev pub invariant-lines : goal.invariant-lines
 invariant-lines g l = record {
   answered : IsAnsweredTo l.rest l.fn.session l.session l.chunk (g.T.FrontEnd.report l.fn.front_end) (g.T.FrontEnd.report l.front_end);

@@ -47,7 +47,7 @@ pub returns-then-is_over-clause-calls : goal.returns-then-is_over-clause-calls
 returns-then-is_over-clause-calls g c =
     talks_over (g.T.FrontEnd.report c.args.front_end.now) (g.T.FrontEnd.report c.read.new.self) (g.T.FrontEnd.report c.answer_chunk.new.front_end) c.chunks.session c.answer_chunk.new.session c.chunks._reads c.split_at.result.0.now _ (read_more (g.T.FrontEnd.report c.args.front_end.now) (g.T.FrontEnd.report c.chunks.front_end) (g.T.FrontEnd.report c.read.new.self) c.chunks.session c.chunks._reads c.in-Ok.n c.read.new.buf c.split_at.result.0.now c.chunks.invariant.between c.in-Ok.ensures c.split_at.ensures.front) (first_of (search rules, omega arith, grind (arith, common_steps))) c.in_ok-answer_chunk.ensures.answered (sym c.is_over.ensures ∙ c.if-is_over.true)
 
--- one chunk more
+-- one more chunk is answered
 pub chunks-preserved : goal.chunks-preserved
 chunks-preserved g c = record {
   between = between_more (g.T.FrontEnd.report c.args.front_end.now) (g.T.FrontEnd.report c.read.new.self) (g.T.FrontEnd.report c.answer_chunk.new.front_end) c.chunks.session c.answer_chunk.new.session c.chunks._reads c.split_at.result.0.now (read_more (g.T.FrontEnd.report c.args.front_end.now) (g.T.FrontEnd.report c.chunks.front_end) (g.T.FrontEnd.report c.read.new.self) c.chunks.session c.chunks._reads c.in-Ok.n c.read.new.buf c.split_at.result.0.now c.chunks.invariant.between c.in-Ok.ensures c.split_at.ensures.front) (first_of (search rules, omega arith, grind (arith, common_steps))) c.in_ok-answer_chunk.ensures.answered (sym c.is_over.ensures ∙ c.if-is_over.false);
@@ -62,7 +62,7 @@ returns-clause-err g c = left_many _ _ c.chunks.session _ c.chunks.invariant.bet
 pub returns-clause-calls : goal.returns-clause-calls
 returns-clause-calls g c = talks_many _ _ c.chunks.session _ c.chunks.invariant.between (search rules)
 
--- the memory was told of all that was read
+-- the memo was told each search for the bytes read
 pub returns-then-n-eq0-clause-told : goal.returns-then-n-eq0-clause-told
 returns-then-n-eq0-clause-told g c =
     told_at_end g.M.Memo.called c.args.setup (g.T.FrontEnd.report c.args.front_end.now) (g.T.FrontEnd.report c.chunks.front_end) (g.T.FrontEnd.report c.read.new.self) _ _ c.chunks.session c.in-Ok.n c.read.new.buf c.chunks.invariant.told c.in-Ok.ensures c.if-n-eq0.true (wanting-settled c.chunks.session c.chunks.invariant.between.wants)

@@ -3,7 +3,7 @@ use Rattle.usi_stdio.proofs.Between.{IsBetween}
 use Rattle.usi_stdio.proofs.Remembering.{IsToldOf}
 use Rattle.usi_stdio.proofs.streams.stdio_on.Given as goal
 
--- what was read is answered or owed
+-- each line read is answered or due
 abbrev pub invariant-chunks : goal.invariant-chunks
 invariant-chunks g l = record {
   between : IsBetween l.fn.setup (g.T.FrontEnd.report l.fn.front_end) (g.T.FrontEnd.report l.front_end) l.session l._reads;

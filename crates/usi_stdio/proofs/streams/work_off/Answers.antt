@@ -10,7 +10,7 @@ slices-init g c = record {
   capacity = refl;
 }
 
--- one slice more
+-- one more slice is worked
 pub slices-preserved : goal.slices-preserved
 slices-preserved g c = record {
   worked = worked_more _ c.slices.session _ _ _ _ c.slices.invariant.worked c.in_ok-work_slice.ensures.ok;
@@ -18,6 +18,6 @@ slices-preserved g c = record {
   capacity = c.work_slice.ensures.capacity ∙ c.slices.invariant.capacity;
 }
 
--- the slice was cut short
+-- a fault cut the slice short
 pub returns-in_err-work_slice-clause-err : goal.returns-in_err-work_slice-clause-err
 returns-in_err-work_slice-clause-err g c = passed_on c.from_residual.result _ _ c.from_residual.ensures.1 (worked_prefix _ c.slices.session _ _ _ _ c.slices.invariant.worked c.in_err-work_slice.ensures.err)
