@@ -34,7 +34,7 @@ AllReplies steps end =
     (id : SessionId) → is_opened id steps ≡ true → IsSettled (find end.slots id)
     → made_by id steps end ≡ replies_under end.setup (own id steps)
 
--- a session owes now what it owed to its own bytes, less the bytes taken, for any further bytes; of a closed session, the bytes taken are a prefix of the debt
+-- for any further bytes, the replies due are those due before for its own bytes, less the bytes taken; of a closed session, the bytes taken are a prefix of them
 abbrev pub EndsFrom : (List ℕ → List ℕ) → List ℕ → List ℕ → Option SessionView → Type 0
 EndsFrom owed own taken None = IsPrefixOf taken (owed own)
 EndsFrom owed own taken (Some t) = (x : List ℕ) → taken ++ due t x ≡ owed (own ++ x)

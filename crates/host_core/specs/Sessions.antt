@@ -10,7 +10,7 @@ use Rattle.usi_session.specs.declared.limits.TheConstants.{CHUNK_MAX}
 abbrev pub CanFeed : SessionView → List ℕ → Type 0
 CanFeed t chunk = (wants_input t ≡ true) × (length chunk ≤ CHUNK_MAX)
 
--- the bytes were stored: for any further bytes, the debt and the state to come are those for the chunk and these
+-- the bytes were stored: for any further bytes, the replies due and the state to come are those for the chunk and these
 pub record Fed (old : SessionView) (chunk : List ℕ) (new : SessionView) : Type 0 where
   pub could : CanFeed old chunk
   pub owed : (x : List ℕ) → due new x ≡ due old (chunk ++ x)
@@ -19,7 +19,7 @@ pub record Fed (old : SessionView) (chunk : List ℕ) (new : SessionView) : Type
   pub state_is : new.state ≡ old.state
   pub running_go_is : new.go_task ≡ old.go_task
 
--- the session worked for this many steps: the replies due and the state to come are unchanged, and its queue has only grown, by whole lines. If something is still pending, the budget is spent within a search
+-- the session worked for this many steps: the replies due and the state to come stay, and its queue has only grown, by whole lines. If something is still pending, the budget is spent within a search
 pub record WorkedOn (old : SessionView) (budget steps : ℕ) (new : SessionView) : Type 0 where
   pub owed : (x : List ℕ) → due new x ≡ due old x
   pub after : (x : List ℕ) → state_due new x ≡ state_due old x
@@ -30,7 +30,7 @@ pub record WorkedOn (old : SessionView) (budget steps : ℕ) (new : SessionView)
   pub enough : load old ≤ budget → is_pending new ≡ false
   pub idle : is_pending old ≡ false → (steps ≡ 0) × (new ≡ old)
 
--- the session ran out of memory: its debt and the state to come are unchanged, and its queue has only grown, by whole lines
+-- the session ran out of memory: the replies due and the state to come stay, and its queue has only grown, by whole lines
 pub record Stopped (old new : SessionView) : Type 0 where
   pub was_pending : is_pending old ≡ true
   pub owed : (x : List ℕ) → due new x ≡ due old x

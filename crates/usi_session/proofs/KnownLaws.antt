@@ -144,7 +144,7 @@ known_answered s next queued more input rest idle go_task line alive i first h r
       one_line = later;
     }
 
--- known searches stay known when a line of a running `go` is reported
+-- known searches stay known when a line of a `go` is reported
 pub known_reported : (s : State) (queued more : List ℕ) (input : Buffer) (go next : GoTaskView) (go_task : Option GoTaskView)
     → go_task ≡ Some go → next.go_request ≡ go.go_request → (is_searching next ≡ true → next.is_begun ≡ false)
     → roots_left (record { state = s; go_task = Some next; queued = more; input = input }) ≡ roots_left (record { state = s; go_task = go_task; queued = queued; input = input })
@@ -171,7 +171,7 @@ known_ended s next queued more input go go_task i h roots = λ answers known.
       one_line = subst (λ (t : State). HasOneLine t (ahead input [])) (sym h.state_is) one;
     }
 
--- known searches stay known when a search of a running `go` is passed
+-- known searches stay known when a search of a `go` is passed
 pub known_passed : (before after : Shogi → Eval → ℕ → Option Entry) (s : State) (queued : List ℕ) (input : Buffer) (go next : GoTaskView) (go_task : Option GoTaskView)
     → go_task ≡ Some go → IsSameButForSearch go next → IsBetweenSearches next
     → ((q : Shogi) (f : Eval) (n : ℕ) → after q f n ≡ before q f n) → (ended : List Root)

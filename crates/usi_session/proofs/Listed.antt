@@ -33,7 +33,7 @@ use Rattle.usi_session.specs.Walked.{Walked, IsFirst, IsRanked, IsRankedTo, IsLi
 pub drop_at : (xs : List ℕ) (n x : ℕ) → slice_get xs n ≡ Some x → drop n xs ≡ x ∷ drop (n + 1) xs
 drop_at xs n x e = drop_more xs n x (slice_get_within xs n x e) ∙ ap (λ (y : ℕ). y ∷ drop (n + 1) xs) (get_or_from_slice_get xs n x x e)
 
--- the steps along the pv of a listed move and along those behind it
+-- the steps along the pvs of a listed move and those behind it
 pub pvs_next : (p : Shogi) (eval : Eval) (d : ℕ) (xs : List ℕ) (n x : ℕ) → slice_get xs n ≡ Some x → pvs_cost p eval d (drop n xs) ≡ pv_cost (after_code p x) eval d + pvs_cost p eval d (drop (n + 1) xs)
 pvs_next p eval d xs n x e = ap (pvs_cost p eval d) (drop_at xs n x e) ∙ sum_by-cons (λ code. pv_cost (after_code p code) eval d) x (drop (n + 1) xs)
 
@@ -144,7 +144,7 @@ pv_by_move p next eval depths_done m b a =
     ∙ ap (λ (k : ℕ). m ∷ pv (after p m) eval k) (sym n)
     ∙ ap (then_pv (λ q. pv q eval (depths_done + 1 - 1)) p) (sym b)
 
--- the walk of the first line has the value and the pv of the position
+-- the walk of the first line has the position's value and pv
 pub line_first : (go_request : GoRequest) (depths_done : ℕ) (w : Walked) → IsLine go_request depths_done 0 w → 1 ≤ go_request.multi_pv → legal_codes go_request.position ≢ []
     → (w.value ≡ value go_request.position go_request.eval (depths_done + 1)) × (w.pv ≡ pv go_request.position go_request.eval (depths_done + 1))
 line_first go_request depths_done w l h ne =

@@ -1,4 +1,4 @@
--- The step of a running `go` from one search or line to the next.
+-- The step of a `go` from one search or line to the next.
 use Rattle.std.proofs.Common.{◌≡◌, ◌≢◌, ◌<◌, ◌≤◌, ◌<ℤ◌, ◌≤ℤ◌, ℕ, zero, suc, ℤ, ◌+◌, ◌-◌, ◌*◌, ◌==◌, [], ◌∷◌, Bool, true, false, Option, Some, None, refl, sym, ap, subst, ◌∙◌, arith, drop, length}
 use Rattle.std.specs.Prelude.{cond, nat_lt}
 use Rattle.std.proofs.lemmas.Bool.{both_ways, eqb-true, ltb-false}
@@ -139,7 +139,7 @@ begun_cost_at go_request first depths_done above false e f b a =
     sum_of_tree_sizes-next go_request.position depths_done (code_of first) (after go_request.position first) (legal_codes go_request.position) (legal_above go_request.position (Some first)) (sym (after_code_of go_request.position first b)) f in
     rw k (omega arith)
 
--- when a depth begins, its load is at most the cost of it and of the depths above
+-- when a depth begins, its cost and that of the depths above bound the load
 pub begun_cost : (go_request : GoRequest) (first : Move) (depths_done : ℕ) → depths_done < go_request.depth → IsFirst go_request.position first → move_of (code_of first) ≡ Some first
     → load_of (go_at go_request depths_done (first_phase go_request first depths_done) (first_search go_request first depths_done)) ≤ cost_of_depths go_request depths_done (go_request.depth - depths_done)
 begun_cost go_request first depths_done h f b =
@@ -150,7 +150,7 @@ pub child_window : (go_request : GoRequest) (depths_done : ℕ) (root_move : Mov
 child_window go_request depths_done root_move ranks ok a h r =
     gone_window go_request.position go_request.eval depths_done r.passed ranks ok (let d = a.depth_fits.most in omega arith) (gone go_request depths_done r.passed ranks r.ranked)
 
--- unless it is settled, a move's worth is what the search of its child finds
+-- a move that is not settled is worth what its child's search finds
 pub child_worth : (go_request : GoRequest) (depths_done code : ℕ) → is_settled go_request depths_done ≡ false → worth go_request.position go_request.eval depths_done code ≡ negated (value (after_code go_request.position code) go_request.eval depths_done)
 child_worth go_request zero code h = worth_plain go_request.position go_request.eval 0 code h
 child_worth go_request (suc d) code h = refl
@@ -179,7 +179,7 @@ next_child_cost go_request depths_done root_move m w s beta e a n =
     sum_of_tree_sizes-next go_request.position depths_done (code_of m) (after go_request.position m) (legal_above go_request.position (Some root_move)) (legal_above go_request.position (Some m)) a n in
     omega arith
 
--- the load of the next depth is at most what was left for the depths above
+-- the next depth's load is at most that of the depths above
 pub next_depth_cost : (go_request : GoRequest) (first : Move) (depths_done : ℕ) (phase : Phase) (s : Progress) → depths_done + 1 < go_request.depth → IsFirst go_request.position first → move_of (code_of first) ≡ Some first
     → load_of (go_at go_request (depths_done + 1) (first_phase go_request first (depths_done + 1)) (first_search go_request first (depths_done + 1))) ≤ load_of (go_at go_request depths_done phase s)
 next_depth_cost go_request first depths_done phase s h f b = omega (arith, begun_cost go_request first (depths_done + 1) h f b)

@@ -1,4 +1,4 @@
--- Reporting a line of a running `go`.
+-- Reporting a line of a `go`.
 use Rattle.std.proofs.Common.{◌≡◌, ◌≢◌, ℕ, suc, ◌+◌, ◌-◌, ◌<◌, ℤ, List, [], ◌∷◌, ◌++◌, refl, sym, ap, ◌∙◌, arith, append_assoc, subst, true, false, Bool, length, drop}
 use Rattle.std.proofs.lemmas.Bool.{eqb-true, eq-eqb, cond-true, cond-false, false_from_ne_true}
 use Rattle.std.proofs.lemmas.List.{drop_all}
@@ -44,7 +44,7 @@ reported_one go_request depths_done lines_done w old new v moves l n ne value_is
     ∙ append_assoc old (info_text (depths_done + 1) v moves) (deeper_infos go_request depths_done)
     ∙ ap (λ (xs : List ℕ). old ++ (xs ++ deeper_infos go_request depths_done)) (text ∙ sym left)
 
--- with several lines, the info lines after the current one: the later ones of the depth, and the depths above
+-- with several lines, the info lines after the current one: of this depth, and of those above
 after_at : (go_request : GoRequest) (depths_done lines_done : ℕ) (ends : Bool) → ends_depth go_request depths_done lines_done ≡ ends → (go_request.multi_pv == 1) ≡ false
     → cond ends (deeper_infos go_request depths_done) (infos_to_come go_request depths_done (lines_done + 1)) ≡ numbered_lines go_request.position go_request.eval (depths_done + 1) (lines_done + 1 + 1) (drop (lines_done + 1) (listed_at go_request depths_done)) ++ deeper_infos go_request depths_done
 after_at go_request depths_done lines_done true e n =
@@ -80,7 +80,7 @@ reported_several go_request depths_done lines_done w old new v moves l ne value_
     ∙ ap (λ (xs : List ℕ). old ++ xs) (sym (append_assoc line more (deeper_infos go_request depths_done)))
     ∙ ap (λ (xs : List ℕ). old ++ (xs ++ deeper_infos go_request depths_done)) (sym left)
 
--- the info line of the only line of a depth is a whole line
+-- the only info line of a depth is a whole line
 pub one_grows : (old new : List ℕ) (depth : ℕ) (v : ℤ) (moves : List Move) → new ≡ old ++ info_text depth v moves → GrowsByLines old new
 one_grows old new depth v moves e = grows_by_text old new (info_text depth v moves) e (info_whole depth v moves)
 

@@ -1,4 +1,4 @@
--- The pv searches that a running `go` has still to end.
+-- The pv searches that a `go` has still to end.
 use Rattle.std.proofs.Common.{◌≡◌, ◌∙◌, ◌<◌, ℕ, zero, suc, ◌+◌, ◌-◌, ◌==◌, List, [], ◌∷◌, ◌++◌, Bool, true, false, cond, Option, Some, None, refl, sym, ap, arith, append-nil, drop, length}
 use Rattle.std.specs.Prelude.{nat_lt, ◌||◌, is_some, slice_get}
 use Rattle.std.proofs.lemmas.Bool.{eqb-true, and_parts}
@@ -44,7 +44,7 @@ pub roots_next : (at next : Shogi) (eval : Eval) (plies : ℕ) (m : Move) (b : O
     → pv_roots next eval (plies - 1) ≡ then_pv_roots (λ q. pv_roots q eval (plies - 1)) at (best at eval plies)
 roots_next at next eval plies m b h n f = ap (λ q. pv_roots q eval (plies - 1)) f ∙ sym (ap (then_pv_roots (λ q. pv_roots q eval (plies - 1)) at) (sym h ∙ n))
 
--- the searches along the pv of a listed move and along those behind it
+-- the searches along the pvs of a listed move and those behind it
 pub pvs_roots-next : (p : Shogi) (eval : Eval) (d : ℕ) (xs : List ℕ) (n x : ℕ) → slice_get xs n ≡ Some x → pv_roots (after_code p x) eval d ++ pvs_roots p eval d (drop (n + 1) xs) ≡ pvs_roots p eval d (drop n xs)
 pvs_roots-next p eval d xs n x e = sym (ap (pvs_roots p eval d) (drop_at xs n x e))
 
@@ -94,12 +94,12 @@ current_whole go None e =
     ap (λ (k : ℕ). pv_roots go.walk_position go.go_request.eval k ++ lines_roots go.go_request go.depths_done (go.lines_done + 1)) (not_above go.walk_plies e)
     ∙ ap (λ (roots : List Root). roots ++ lines_roots go.go_request go.depths_done (go.lines_done + 1)) (pv_roots-leaf go.walk_position go.go_request.eval)
 
--- once a pv is whole, the pv searches behind it and of the depths above are left
+-- once a pv is whole, the searches of the pvs behind it and of the depths above are left
 pub whole_roots : (go : GoTaskView) → is_searching go ≡ false
     → roots_of go ≡ lines_roots go.go_request go.depths_done (go.lines_done + 1) ++ deeper_roots go.go_request go.depths_done
 whole_roots go whole = ap (λ (roots : List Root). roots ++ deeper_roots go.go_request go.depths_done) (current_whole go go.root_move whole)
 
--- once the last line of a depth is whole, the searches of the depths above are left
+-- once a depth's last line is whole, the searches of the depths above are left
 pub ended_roots : (go : GoTaskView) → is_searching go ≡ false → is_last_of_depth go ≡ true → roots_of go ≡ deeper_roots go.go_request go.depths_done
 ended_roots go whole last =
     whole_roots go whole

@@ -1,4 +1,4 @@
--- What a running `go` owes and costs, one depth or one search at a time.
+-- The replies due and the costs of a `go`, one depth or one search at a time.
 use Rattle.std.proofs.Common.{◌≡◌, ◌≢◌, ℕ, zero, suc, ◌+◌, ◌-◌, ◌<◌, List, [], ◌++◌, refl, sym, ap, ◌∙◌, arith, append_assoc, append-nil, add-one, true, false, Bool, Some}
 use Rattle.std.proofs.lemmas.Bool.{eqb-true}
 use Rattle.std.specs.Prelude.{cond, ◌&&◌, ◌==◌}
@@ -36,7 +36,7 @@ infos_of_depths-from go_request (suc more) depths_done =
 deeper_infos-none : (go_request : GoRequest) (depths_done : ℕ) → depths_done + 1 ≡ go_request.depth → deeper_infos go_request depths_done ≡ []
 deeper_infos-none go_request depths_done e = let n : go_request.depth - (depths_done + 1) ≡ 0 = omega arith in rw n (infos_of_depths-start go_request (depths_done + 1))
 
--- before the first line of a depth, the info lines to come are those of that depth and those above it
+-- before the first line of a depth, its info lines and those above are to come
 pub infos_to_come-start : (go_request : GoRequest) (depths_done : ℕ) → depths_done < go_request.depth → infos_to_come go_request depths_done 0 ≡ infos_of_depths go_request depths_done (go_request.depth - depths_done)
 infos_to_come-start go_request depths_done h =
     let n : go_request.depth - depths_done ≡ suc (go_request.depth - (depths_done + 1)) = omega arith in rw n (sym (infos_of_depths-suc go_request depths_done (go_request.depth - (depths_done + 1))))

@@ -1,4 +1,4 @@
--- Debts of a session that is over or has nothing pending.
+-- The replies due of a session that is over or has nothing pending.
 use Rattle.std.proofs.Common.{◌≡◌, ℕ, List, [], ◌∷◌, ◌++◌, refl, sym, ap, ◌∙◌, false, true, Bool, append-nil, Option, Some, None}
 use Rattle.std.specs.Prelude.{◌&&◌, ◌||◌, not, nat_lt, length, cond, is_some}
 use Rattle.usi_lines.specs.Lines.{Line, ahead, lines}
@@ -81,7 +81,7 @@ idle_state false s None [] alive e = state_from-none s
 idle_state false s None (line ∷ rest) alive e = absurd (cc)
 idle_state false s (Some go) xs alive e = absurd (cc)
 
--- a live session with nothing pending has reached the state after all its lines
+-- a live session with nothing pending is in the state after all its lines
 pub state_due-settled : (s : SessionView) → s.state.is_over ≡ false → is_pending s ≡ false → state_due s [] ≡ s.state
 state_due-settled s alive settled = idle_state s.state.is_over s.state s.go_task (ahead s.input []) alive settled
 
@@ -125,7 +125,7 @@ alive_of : (over settled short : Bool) → (not over && not settled && short) �
 alive_of false settled short e = refl
 alive_of true settled short e = absurd (cc)
 
--- a session that wants input is not over after the lines it was sent
+-- a session that wants input is not over after all its lines
 pub state_due-wanting : (s : SessionView) → wants_input s ≡ true → (state_due s []).is_over ≡ false
 state_due-wanting s wants =
     let alive : s.state.is_over ≡ false = alive_of s.state.is_over (is_some s.go_task || has_line (ahead s.input [])) (nat_lt (length s.queued) QUEUE_FULL) wants in

@@ -49,7 +49,7 @@ with_rest-parts : (bytes : List ℕ) (s : State) (go_task : Option GoTaskView) �
 with_rest-parts bytes s None = sym (append-nil bytes)
 with_rest-parts bytes s (Some go) = refl
 
--- the debt is unchanged when the answer to a line is queued or its `go` started
+-- queueing a line's answer, or starting its `go`, keeps the replies due
 pub due_on : (s next : State) (queued more reply : List ℕ) (idle go_task : Option GoTaskView) (line : Line) (all rest : List Line) → s.is_over ≡ false → idle ≡ None → all ≡ line ∷ rest → more ≡ queued ++ reply → with_rest reply next go_task ≡ (answer_to s line).bytes → (rest_of_go_if next go_task).state ≡ (answer_to s line).state → (next.is_over ≡ true → go_task ≡ None)
     → more ++ owed next go_task rest ≡ queued ++ owed s idle all
 due_on s next queued more reply idle go_task line all rest alive i e f g h over =
@@ -70,12 +70,12 @@ load_on s next idle go_task line all rest alive i e h less =
     let same : costs_from (rest_of_go_if next go_task).state rest ≡ costs_from (answer_to s line).state rest = ap (λ (t : State). costs_from t rest) h in
     rw i (omega arith)
 
--- the state after all lines is the one after the `go` of a line and the lines behind it
+-- the state after all lines is that after a line's `go` and the lines behind it
 pub state_on : (s next : State) (idle go_task : Option GoTaskView) (line : Line) (all rest : List Line) → s.is_over ≡ false → idle ≡ None → all ≡ line ∷ rest → (rest_of_go_if next go_task).state ≡ (answer_to s line).state → state_from (rest_of_go_if next go_task).state rest ≡ state_from (rest_of_go_if s idle).state all
 state_on s next idle go_task line all rest alive i e h =
     ap (λ (t : State). state_from t rest) h ∙ (sym (state_from-alive s line rest alive) ∙ (ap (state_from s) (sym e) ∙ ap (λ (o : Option GoTaskView). state_from (rest_of_go_if s o).state all) (sym i)))
 
--- the bestmove of a running `go`
+-- the bestmove of a `go`
 abbrev last_bestmove : GoTaskView → HeldBestmove
 last_bestmove go = bestmove_to go.go_request go.go_request.depth
 
@@ -96,7 +96,7 @@ load_reported s go more go_task ahead i q less =
     let same : costs_from (rest_of_go s more).state ahead ≡ costs_from (rest_of_go s go).state ahead = ap (λ (t : State). costs_from t ahead) (rest_reported-state s go more q) in
     rw i (omega arith)
 
--- the debt is unchanged when a line of a running `go` is reported
+-- reporting a line of a `go` keeps the replies due
 pub due_reported : (s : State) (queued more infos : List ℕ) (go next : GoTaskView) (go_task : Option GoTaskView) (ahead : List Line) → s.is_over ≡ false → go_task ≡ Some go → next.go_request ≡ go.go_request → infos_left next ≡ infos_after go
     → infos ++ infos_after go ≡ infos_left go → more ≡ queued ++ infos → more ++ owed s (Some next) ahead ≡ queued ++ owed s go_task ahead
 due_reported s queued more infos go next go_task ahead alive i q f g m =
@@ -199,7 +199,7 @@ keeps_same old new e = rw e (record { due_is = λ x. refl; after_is = λ x. refl
 pub all_kept : (old new : SessionView) → new ≡ old → KeepsAll old new
 all_kept old new e = record { due = keeps_same old new e; roots = λ x. ap (λ (t : SessionView). roots_due t x) e }
 
--- unchanged debts over two calls
+-- replies due that stay over two calls
 pub keeps_then : (a b c : SessionView) → KeepsDue a b → KeepsDue b c → KeepsDue a c
 keeps_then a b c g h = record {
   due_is = λ x. h.due_is x ∙ g.due_is x;
@@ -214,7 +214,7 @@ roots_ended s next queued more go go_task ahead alive i last whole h =
     let same : roots_ahead next None ahead ≡ roots_ahead s (Some go) ahead = rw (roots_of-last go whole last) (ap (λ (t : State). roots_from t ahead) h.state_is) in
     rw i (roots_where_idle next None ahead (λ _. refl) ∙ (same ∙ sym (roots-alive s (Some go) ahead alive)))
 
--- a search that continues leaves the debt unchanged
+-- continuing a search keeps the replies due
 pub keeps_searched : (s : State) (queued : List ℕ) (input : Buffer) (go next : GoTaskView) (go_task : Option GoTaskView) (budget : ℕ) (result : Option ℕ) → go_task ≡ Some go → IsSameButForSearch go next
     → IfNone result (budget + load_of next ≤ load_of go) → IfSome result (λ made. made + load_of next ≤ load_of go)
     → KeepsDue (record { state = s; go_task = go_task; queued = queued; input = input }) (record { state = s; go_task = Some next; queued = queued; input = input })
@@ -229,7 +229,7 @@ keeps_searched s queued input go next go_task budget result i e spent made =
       grown = grows_by_none queued;
     })
 
--- reporting a line leaves the debt unchanged
+-- reporting a line keeps the replies due
 pub keeps_reported : (s : State) (queued more : List ℕ) (input : Buffer) (go next : GoTaskView) (go_task : Option GoTaskView) → is_pending (record { state = s; go_task = go_task; queued = queued; input = input }) ≡ true → go_task ≡ Some go
     → next.go_request ≡ go.go_request → infos_left next ≡ infos_after go → load_of next ≤ load_of go → QueuesLine go queued more
     → KeepsDue (record { state = s; go_task = go_task; queued = queued; input = input }) (record { state = s; go_task = Some next; queued = more; input = input })
@@ -242,7 +242,7 @@ keeps_reported s queued more input go next go_task pending i q f less h =
       grown = record { lines = h.line; after_is = h.after_line; whole = h.whole };
     }
 
--- ending a `go` leaves the debt unchanged
+-- ending a `go` keeps the replies due
 pub keeps_ended : (s next : State) (queued more : List ℕ) (input : Buffer) (go : GoTaskView) (go_task : Option GoTaskView) → is_pending (record { state = s; go_task = go_task; queued = queued; input = input }) ≡ true → go_task ≡ Some go
     → QueuesEnd go s next queued more
     → KeepsDue (record { state = s; go_task = go_task; queued = queued; input = input }) (record { state = next; go_task = None; queued = more; input = input })
@@ -256,7 +256,7 @@ keeps_ended s next queued more input go go_task pending i h =
       grown = record { lines = (rest_of_go s go).bytes; after_is = h.after_end; whole = h.whole };
     }
 
--- answering a line, or starting its `go`, leaves the debt unchanged
+-- answering a line, or starting its `go`, keeps the replies due
 pub keeps_answered : (s next : State) (queued more : List ℕ) (input rest : Buffer) (idle go_task : Option GoTaskView) (line : Line) → is_pending (record { state = s; go_task = idle; queued = queued; input = input }) ≡ true → idle ≡ None
     → ((x : List ℕ) → ahead input x ≡ line ∷ ahead rest x) → QueuesAnswer s line next queued more go_task
     → KeepsDue (record { state = s; go_task = idle; queued = queued; input = input }) (record { state = next; go_task = go_task; queued = more; input = rest })
@@ -380,7 +380,7 @@ pub mid_load : (s : State) (go_task : Option GoTaskView) (ahead : List Line) →
 mid_load s None ahead mid = absurd mid
 mid_load s (Some go) ahead mid = some_added go.steps_left (load_after_search go) (costs_from (rest_of_go s go).state ahead) mid.1
 
--- the steps of a slice: those made, and those left of the budget and of the load
+-- the steps of a slice: those made, and those left of budget and load
 pub made_on : (budget left old now made new : ℕ) → budget + now ≤ old + left → made ≤ left → made + new ≤ now → budget + new ≤ old + (left - made)
 made_on budget left old now made new before most h = omega arith
 

@@ -86,7 +86,7 @@ ended_then_for called a b c x y z first second = record {
   told = told_and_told called a b c first.ended second.ended first.told second.told;
 }
 
--- an entry that is enough below the end of the whole window is the exact value with the best move
+-- an entry enough below the end of the whole window is the exact value and best move
 whole_entry : (root : Root) (entry : Entry) (f : Found) → Says entry f → IsEnoughBelow INFINITY (Some entry)
     → f.value ≡ value root.position root.eval root.depth → f.best ≡ best root.position root.eval root.depth
     → f.value <ℤ INFINITY → entry ≡ entry_of_root root
@@ -107,7 +107,7 @@ not_ended (Some f) result old new again over left =
     let same : new.left ≡ old.left = ap (λ (p : Progress). p.left) (again f refl).1 in
     absurd (omega arith)
 
--- a search in the whole window that ends tells the value of its root
+-- a search in the whole window tells its root's value when it ends
 pub told_value : {M : Type 0} (called : M → Call → M → Type 0) (a b : M) (old new : Progress) (result : Option Found) (f : Found)
     (p : Shogi) (eval : Eval) (d : ℕ)
     → IsUnder old p eval d INFINITY → ForSome old.found (λ g. (result ≡ Some g) × (new ≡ old)) → new.left ≡ 0

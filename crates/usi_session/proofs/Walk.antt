@@ -32,7 +32,7 @@ walked_all moves all at eval plies e w =
 pub cost_ends : (at : Shogi) (eval : Eval) (plies more : ℕ) → plies ≡ 0 → pv_cost at eval plies ≤ more
 cost_ends at eval plies more e = let n : pv_cost at eval 0 ≡ 0 = pv_cost-leaf at eval in rw e (omega arith)
 
--- the steps of the first search along a pv, and of those after it
+-- the steps of the first search along a pv, and of the later ones
 pub cost_begun : (at : Shogi) (eval : Eval) (plies left old : ℕ) → 0 < plies → left ≡ 4 * tree_size at plies → left + then_pv_cost (λ q. pv_cost q eval (plies - 1)) at (best at eval plies) ≤ old + pv_cost at eval plies
 cost_begun at eval plies left old h e = omega (arith, pv_cost-above at eval plies h)
 

@@ -151,7 +151,7 @@ answer_to-whole : (s : State) (line : Line) → AreWholeLines (answer_to s line)
 answer_to-whole s (Text text) = answer-whole s (command_of text)
 answer_to-whole s TooLong = refl
 
--- a line is answered at once with whole lines, or its `go` starts and nothing is written yet
+-- a line's answer is whole lines, or its `go` starts and nothing is written yet
 pub reply_whole : (s next : State) (reply : List ℕ) (go_task : Option GoTaskView) (line : Line) → with_rest reply next go_task ≡ (answer_to s line).bytes → OnSome go_task (reply ≡ []) → AreWholeLines reply
 reply_whole s next reply None line e quiet = ap (last_byte LINE_FEED) e ∙ answer_to-whole s line
 reply_whole s next reply (Some go) line e quiet = ap (last_byte LINE_FEED) quiet

@@ -81,7 +81,7 @@ bestmove_at position eval depth until = bestmove_of (pv position eval depth) unt
 abbrev pub held_line : HeldBestmove → List ℕ
 held_line held = bestmove_line held.best held.ponder
 
--- the info lines and, under `Nothing`, the bestmove are written; else the bestmove is held. One held before is dropped
+-- the info lines and, under `Nothing`, the bestmove are written; otherwise it is held. One held before is dropped
 abbrev pub write_or_hold : State → List ℕ → HeldBestmove → Hold → Answer
 write_or_hold state infos held Nothing =
     answer_with (without_bestmove state) (infos ++ held_line held)

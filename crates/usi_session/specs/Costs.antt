@@ -18,7 +18,7 @@ abbrev pub pvs_cost : Shogi → Eval → ℕ → List ℕ → ℕ
 pvs_cost position eval plies codes =
     sum_by (λ code. pv_cost (after_code position code) eval plies) codes
 
--- the most steps of a depth: with one line, those along its pv; with several, those of the search after each legal move and those along each listed pv
+-- the most steps of a depth: with one line, along its pv; with several, after each legal move and along each listed pv
 abbrev pub depth_cost : Shogi → Eval → ℕ → ℕ → ℕ
 depth_cost position eval multi_pv depth =
     cond (multi_pv == 1) (pv_cost position eval depth)

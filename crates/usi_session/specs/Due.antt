@@ -14,23 +14,23 @@ use Rattle.usi_session.specs.Told.{TellsEndedFor}
 use Rattle.usi_session.specs.WholeLines.{AreWholeLines, GrowsByLines}
 use Rattle.usi_session.specs.declared.limits.TheConstants.{QUEUE_FULL}
 
--- the view of a session: the state after the answered lines, the running `go`, the replies not yet taken, and the bytes fed but not yet answered
+-- the view of a session: the state after the answered lines, the running `go`, the replies not yet taken, and the bytes not yet answered
 pub record SessionView : Type 0 where
   pub state : State
   pub go_task : Option GoTaskView
   pub queued : List ℕ
   pub input : Buffer
 
--- the bytes of an answer, then the replies to the lines ahead from the state after it
+-- the bytes of an answer, and the replies to the lines ahead from its state on
 abbrev pub owed_after : Answer → List Line → List ℕ
 owed_after answer ahead = answer.bytes ++ replies_from answer.state ahead
 
--- the replies still to be written: the rest of the running `go`, then those to the lines ahead; none if the session is over
+-- the replies still to be written: the rest of the running `go`, and those to the lines ahead; none if the session is over
 abbrev pub owed : State → Option GoTaskView → List Line → List ℕ
 owed state go_task ahead =
     cond state.is_over [] (owed_after (rest_of_go_if state go_task) ahead)
 
--- the debt once these further bytes are fed: the queue, the rest of the `go`, and the replies to the lines ahead
+-- the replies due once these further bytes are fed: the queue, the rest of the `go`, and the replies to the lines ahead
 abbrev pub due : SessionView → List ℕ → List ℕ
 due session further =
     session.queued ++ owed session.state session.go_task (ahead session.input further)
@@ -40,21 +40,21 @@ abbrev pub state_due : SessionView → List ℕ → State
 state_due session further =
     state_from (rest_of_go_if session.state session.go_task).state (ahead session.input further)
 
--- for any further bytes, a function of the session has after the chunk the value that it had before for the chunk and these bytes
+-- after the chunk, `what` is for any bytes what it was before for the chunk and these bytes
 abbrev pub IsSameAfter : {A : Type 0} → (SessionView → List ℕ → A) → List ℕ → SessionView
     → SessionView → Type 0
 IsSameAfter what chunk old new = (x : List ℕ) → what new x ≡ what old (chunk ++ x)
 
--- the most steps still to be made, for the running `go` and each `go` in these lines
+-- the most steps still to be made for the running `go` and the `go` in these lines
 abbrev pub load_ahead : State → Option GoTaskView → List Line → ℕ
 load_ahead state go_task ahead =
     load_of_if go_task + costs_from (rest_of_go_if state go_task).state ahead
 
--- the load: the most steps still to be made, for the running `go` and the unread lines
+-- the load: the most steps still to be made for the running `go` and the unread lines
 abbrev pub load : SessionView → ℕ
 load session = load_ahead session.state session.go_task (ahead session.input [])
 
--- the pv searches still to end: of the running `go`, and of each `go` in these lines
+-- the pv searches still to end of the running `go` and of the `go` in these lines
 abbrev pub roots_ahead : State → Option GoTaskView → List Line → List Root
 roots_ahead state go_task ahead =
     roots_of_if go_task ++ roots_from (rest_of_go_if state go_task).state ahead
@@ -76,21 +76,21 @@ roots_left session = roots_due session []
 abbrev pub KeepsRoots : SessionView → SessionView → Type 0
 KeepsRoots old new = (further : List ℕ) → roots_due new further ≡ roots_due old further
 
--- for any further bytes: of the searches still to end, the first have ended with their values told to the memo; the others are left
+-- for any further bytes: of the searches still to end, the first have ended, as the memo was told; the others are left
 abbrev pub EndsSearches : {M : Type 0} → (M → Call → M → Type 0) → M → M → SessionView → SessionView
     → Type 0
 EndsSearches called old new before after =
     TellsEndedFor called old new (roots_due before) (roots_due after)
 
--- the replies owed and the state after them are unchanged, no more steps may be made than before,
--- and the queue has only grown, by whole lines
+-- the replies due and the state after them stay, the load has not grown, and the queue has only
+-- grown, by whole lines
 pub record KeepsDue (old new : SessionView) : Type 0 where
   pub due_is : (further : List ℕ) → due new further ≡ due old further
   pub after_is : (further : List ℕ) → state_due new further ≡ state_due old further
   pub load_most : load new ≤ load old
   pub grown : GrowsByLines old.queued new.queued
 
--- the debt and the searches still to end are unchanged
+-- the replies due and the searches still to end stay
 pub record KeepsAll (old new : SessionView) : Type 0 where
   pub due : KeepsDue old new
   pub roots : KeepsRoots old new
@@ -146,7 +146,7 @@ abbrev pub IsPvWhole : Option GoTaskView → Type 0
 IsPvWhole None = ⊥
 IsPvWhole (Some go) = is_searching go ≡ false
 
--- more than the turns still to be taken: each lowers the load, reports a line, or answers one
+-- more than the turns left: each lowers the load, reports a line, or answers one
 abbrev pub turns : SessionView → ℕ
 turns session =
     load session

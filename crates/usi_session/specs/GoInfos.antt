@@ -38,7 +38,7 @@ numbered_lines position eval depth number (code ∷ rest) =
     numbered_line position eval depth number code
     ++ numbered_lines position eval depth (number + 1) rest
 
--- the info lines of a depth: one with value and pv, or with several lines one for each listed move
+-- the info lines of a depth: value and pv, or with several lines one for each listed move
 abbrev pub depth_lines : Shogi → Eval → ℕ → ℕ → List ℕ
 depth_lines position eval multi_pv depth =
     cond (multi_pv == 1) (info_line position eval depth)
@@ -50,7 +50,7 @@ info_lines position eval multi_pv zero = []
 info_lines position eval multi_pv (suc depth) =
     info_lines position eval multi_pv depth ++ depth_lines position eval multi_pv (suc depth)
 
--- the info lines of a `go`, by its legal moves: none if there are none
+-- the info lines of a `go`; none if no move is legal
 abbrev pub go_infos_where : Shogi → Eval → ℕ → ℕ → List ℕ → List ℕ
 go_infos_where position eval multi_pv depth [] = []
 go_infos_where position eval multi_pv depth (code ∷ codes) = info_lines position eval multi_pv depth

@@ -20,10 +20,10 @@ use Rattle.usi_session.specs.Told.{TellsEnded}
 use Rattle.usi_session.specs.Answer.{Answer, answer, answer_go, bestmove_at, write_or_hold, answer_with}
 use Rattle.usi_session.specs.WholeStream.{answer_to}
 
--- the view of a running `go`. `depths_done` is also the number of plies after a root move at
--- the current depth; `lines_done` counts at that depth.
+-- the view of a running `go`. `depths_done` is also the number of plies after a root move at the
+-- current depth; `lines_done` counts at that depth.
 -- `root_move` is the one whose child is searched for its worth, or none while a pv is walked.
--- `walk_position` is the position after the walk's moves so far, `walk_plies` the plies left of it;
+-- `walk_position` is the position after the walk's moves, `walk_plies` the plies left of it.
 -- `is_begun` and `steps_left` are of the current search
 pub record GoTaskView : Type 0 where
   pub go_request : GoRequest
@@ -128,7 +128,7 @@ cost_of_depths go_request depths_done (suc more) =
     depth_cost go_request.position go_request.eval go_request.multi_pv (depths_done + 1)
     + cost_of_depths go_request (depths_done + 1) more
 
--- the rest of a running `go`: the bytes still to come and the state after them, whatever its current search has done
+-- the rest of a running `go`: the bytes still to come, and the state after them
 abbrev pub rest_of_go : State → GoTaskView → Answer
 rest_of_go state go =
     write_or_hold state (infos_left go) (bestmove_to go.go_request go.go_request.depth) go.go_request.hold
@@ -154,7 +154,7 @@ abbrev pub deeper_cost : GoRequest → ℕ → ℕ
 deeper_cost go_request depths_done =
     cost_of_depths go_request (depths_done + 1) (go_request.depth - (depths_done + 1))
 
--- the most steps of the searches after each root move above this one, and along each listed pv
+-- the most steps of the searches after each later root move and along each listed pv
 abbrev pub root_moves_cost : GoRequest → ℕ → Move → ℕ
 root_moves_cost go_request depths_done root_move =
     4 * sum_of_tree_sizes go_request.position depths_done
@@ -166,8 +166,8 @@ abbrev pub load_after_root_move : GoRequest → ℕ → Move → ℕ
 load_after_root_move go_request depths_done root_move =
     root_moves_cost go_request depths_done root_move + deeper_cost go_request depths_done
 
--- the most steps of the current depth after the current search: of each further root move and each
--- listed pv, or of the rest of this pv and the pvs listed behind it
+-- the most steps of the current depth after the current search: of each later root move and each
+-- listed pv, or of the rest of this pv and those behind it
 abbrev pub depth_load_after_search : Option Move → GoTaskView → ℕ
 depth_load_after_search (Some root_move) go = root_moves_cost go.go_request go.depths_done root_move
 depth_load_after_search None go =
@@ -175,12 +175,12 @@ depth_load_after_search None go =
     (best go.walk_position go.go_request.eval go.walk_plies)
     + lines_cost go.go_request go.depths_done (go.lines_done + 1)
 
--- the most steps after the current search: of its depth and of the depths above
+-- the most steps after the current search, at its depth and above
 abbrev pub load_after_search : GoTaskView → ℕ
 load_after_search go =
     depth_load_after_search go.root_move go + deeper_cost go.go_request go.depths_done
 
--- the load of a running `go`: the most steps that it may still make, in its current search and those after it
+-- the load of a running `go`: the most steps of its current search and those after it
 abbrev pub load_of : GoTaskView → ℕ
 load_of go = go.steps_left + load_after_search go
 
@@ -206,8 +206,8 @@ deeper_roots go_request depths_done =
     roots_of_depths go_request.position go_request.eval go_request.multi_pv (depths_done + 1)
     (go_request.depth - (depths_done + 1))
 
--- the pv searches still to end at the current depth: along each listed pv, or along the rest
--- of this pv and the pvs listed behind it
+-- the pv searches still to end at the current depth: of each listed pv, or of the rest of this pv
+-- and those behind it
 abbrev pub current_roots : Option Move → GoTaskView → List Root
 current_roots (Some root_move) go = lines_roots go.go_request go.depths_done 0
 current_roots None go =
@@ -218,14 +218,14 @@ current_roots None go =
 abbrev pub roots_of : GoTaskView → List Root
 roots_of go = current_roots go.root_move go ++ deeper_roots go.go_request go.depths_done
 
--- of the searches that a `go` had still to end, the first have ended and the memo holds their
--- values; the others are left
+-- of the searches that a `go` had still to end, the first have ended, as the memo was told; the
+-- others are left
 abbrev pub EndsSearchesOfGo : {M : Type 0} → (M → Call → M → Type 0) → M → M → GoTaskView → GoTaskView
     → Type 0
 EndsSearchesOfGo called old new before after =
     TellsEnded called old new (roots_of before) (roots_of after)
 
--- the pv searches that the running `go` has still to end, or none if none is running
+-- the pv searches that the running `go` has still to end; none without one
 abbrev pub roots_of_if : Option GoTaskView → List Root
 roots_of_if None = []
 roots_of_if (Some go) = roots_of go
@@ -238,7 +238,7 @@ is_searching go = is_some go.root_move || nat_lt 0 go.walk_plies
 abbrev pub reports_of : GoTaskView → ℕ
 reports_of go = MULTI_PV_MAX * (go.go_request.depth - go.depths_done) - go.lines_done
 
--- one more than the bound of lines still to report, or 0 if no `go` is running
+-- one more than the bound of lines still to report; 0 without a `go`
 abbrev pub reports_of_if : Option GoTaskView → ℕ
 reports_of_if None = 0
 reports_of_if (Some go) = reports_of go + 1
@@ -247,13 +247,13 @@ reports_of_if (Some go) = reports_of go + 1
 abbrev pub most_reports : ℕ
 most_reports = MULTI_PV_MAX * DEPTH_MAX + 1
 
--- a `go` that has just started has the options' number of lines, and its first search has not begun
+-- a new `go` has the options' number of lines, and its first search has not begun
 abbrev pub IsNewGo : State → GoTaskView → Type 0
 IsNewGo state go =
     (go.go_request.multi_pv ≡ state.options.multi_pv) × (go.is_begun ≡ false)
 
--- the answer was given, or its `go` was started: the bytes written and those that the `go` still
--- owes are the answer; the `go` makes at most `cost` steps, in these searches
+-- the answer was given, or its `go` was started: the bytes written and those still due are the
+-- answer. The `go` makes at most `cost` steps, in these searches
 pub record IsBegun (answer : Answer) (cost : ℕ) (roots : List Root) (before after : List ℕ)
     (state : State) (go_task : Option GoTaskView) : Type 0 where
   pub bytes : with_rest after state go_task ≡ before ++ answer.bytes

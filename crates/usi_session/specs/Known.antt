@@ -51,7 +51,7 @@ pub record PassesSearch {M : Type 0} (called : M → Call → M → Type 0) (old
   pub asked : IsAsked called old new
   pub between : IsBetweenSearches after
 
--- a search along a walk took no step and asked one question, and the next one along the walk has not begun
+-- a search along a walk took no step and asked one question; the walk's next one has not begun
 pub record PassesRoot {M : Type 0} (called : M → Call → M → Type 0) (old new : M)
     (result : Option ℕ) (walk : Walked) (search : Progress) : Type 0 where
   pub made : result ≡ Some 0
@@ -64,7 +64,7 @@ HasOneLine state [] = state.options.multi_pv ≡ 1
 HasOneLine state (line ∷ rest) =
     (state.options.multi_pv ≡ 1) × HasOneLine (answer_line state line).state rest
 
--- a session's searches are all known: no search is under way, all are along pvs with one line, and a memo with these answers has the value of each root
+-- a memo with these answers knows all searches of a session: no search is under way, all are along pvs with one line, and each root's value is known
 pub record IsAllKnown (answers : Shogi → Eval → ℕ → Option Entry) (session : SessionView)
     : Type 0 where
   pub roots : AreKnown answers (roots_left session)
@@ -83,14 +83,14 @@ pub record TurnsOn (old new : SessionView) : Type 0 where
   pub known : StaysKnown old new
   pub fewer : turns new < turns old
 
--- if all searches are known to the memo, a turn that succeeds makes no step, and they stay known
+-- if the memo knows all searches, a turn that succeeds makes no step and leaves all known
 abbrev pub TurnsKnown : {M E : Type 0} → (M → Shogi → Eval → ℕ → Option Entry)
     → (M → Call → M → Type 0) → M → M → Result (Option ℕ) E → SessionView → SessionView → Type 0
 TurnsKnown answers called old new result before after =
     KeepsAnswers answers called → IsAllKnown (answers old) before
     → IfOk result (λ made. (made ≡ Some 0) × IsAllKnown (answers new) after)
 
--- if all searches are known to the memo, a call that succeeds makes no step and leaves nothing pending
+-- if the memo knows all searches, a call that succeeds makes no step and leaves nothing pending
 abbrev pub TakesNoStep : {M E : Type 0} → (M → Shogi → Eval → ℕ → Option Entry)
     → (M → Call → M → Type 0) → M → Result ℕ E → SessionView → SessionView → Type 0
 TakesNoStep answers called memory result before after =

@@ -19,7 +19,7 @@ pub record AreLines : Type 0 where
   pub usual : MULTI_PV_DEFAULT ≡ 1
   pub greatest : MULTI_PV_MAX ≡ 8
 
--- bytes: the line end; the most of a line without it, and of one `feed`; and the queued bytes from which a session is full
+-- bytes: the line end, the most of a line without it, the most of one `feed`, and a full queue
 pub record AreBytes : Type 0 where
   pub line_end : LINE_FEED ≡ 10
   pub line : LINE_MAX ≡ 65535

@@ -53,8 +53,8 @@ pub record IsWalking (go_request : GoRequest) (depths_done : ℕ) (line : PvLine
   pub kept_is : 0 < lines_done_of line.listed → kept ≡ bestmove_to go_request (depths_done + 1)
   pub searched : IsSearchedAlong line.walk search
 
--- the invariant of ranking: the position after a root move is searched for the move's worth, below
--- the bound that a place in the list needs
+-- the invariant of ranking: a child is searched for its move's worth, below the bound that a place
+-- in the list needs
 pub record IsRanking (go_request : GoRequest) (depths_done : ℕ) (child : Child) (search : Progress)
     : Type 0 where
   pub several : go_request.multi_pv ≢ 1

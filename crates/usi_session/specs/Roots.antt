@@ -40,7 +40,7 @@ abbrev pub pvs_roots : Shogi → Eval → ℕ → List ℕ → List Root
 pvs_roots position eval plies codes =
     flat_map (λ code. pv_roots (after_code position code) eval plies) codes
 
--- the pv searches of a depth: along its pv, or with several lines along each listed pv
+-- the pv searches of a depth: along its pv, or with several lines along each listed one
 abbrev pub depth_roots : Shogi → Eval → ℕ → ℕ → List Root
 depth_roots position eval multi_pv depth =
     cond (multi_pv == 1) (pv_roots position eval depth)

@@ -23,20 +23,20 @@ pub record IsCalled {M : Type 0} (called : M → Call → M → Type 0) (old new
   pub calls : List Call
   pub each : AreCalled called old calls new
 
--- the searches of these roots ended in order, each with its value in the last call; further calls may follow
+-- the searches of these roots ended in order, each with its value told last; further calls may follow
 unfoldable pub AreTold : {M : Type 0} → (M → Call → M → Type 0) → M → List Root → M → Type 0
 AreTold called old [] new = IsCalled called old new
 AreTold {M} called old (root ∷ rest) new =
     (mid : M) × (TellsValue called old mid root × AreTold called mid rest new)
 
--- for any further bytes: of the searches before, the first have ended with their values told, and those after are left
+-- for any further bytes: of the searches before, the first have ended, as the memo was told; those after are left
 pub record TellsEndedFor {M : Type 0} (called : M → Call → M → Type 0) (old new : M)
     (before after : List ℕ → List Root) : Type 0 where
   pub ended : List Root
   pub left : (further : List ℕ) → before further ≡ ended ++ after further
   pub told : AreTold called old ended new
 
--- of the searches before, the first have ended with their values told, and those after are left
+-- of the searches before, the first have ended, as the memo was told; those after are left
 pub record TellsEnded {M : Type 0} (called : M → Call → M → Type 0) (old new : M)
     (before after : List Root) : Type 0 where
   pub ended : List Root

@@ -39,8 +39,8 @@ walk_of eval at plies moves found = record {
   value = unwrap_or found (value at eval plies);
 }
 
--- the invariant of a walk: its moves so far and the plies left are at most the greatest depth, and
--- the value is known if no plies are left
+-- the invariant of a walk: its moves and the plies left are at most the greatest depth; without
+-- plies left, the value is known
 abbrev pub IsPvWalk : ℕ → List Move → Option ℤ → Type 0
 IsPvWalk plies moves found =
     (length moves + plies ≤ DEPTH_MAX) × (plies ≡ 0 → is_some found ≡ true)
@@ -117,7 +117,7 @@ running_go_of go_request depths_done lines_done root_move walk search = record {
   steps_left = search.left;
 }
 
--- once the search of a root move's child has ended, the searches along each listed pv are still to end
+-- once a child's search has ended, the searches along each listed pv are still to end
 abbrev pub LeavesRoots : GoRequest → ℕ → Option Move → Walked → Progress → Type 0
 LeavesRoots go_request depths_done root_move walk search =
     current_roots root_move (running_go_of go_request depths_done 0 root_move walk search)
@@ -140,7 +140,7 @@ IsSearchedAlong walk search = 0 < walk.plies → IsUnder search walk.at walk.eva
 abbrev pub worth_at : GoRequest → ℕ → ℕ → ℤ
 worth_at go_request depths_done = worth go_request.position go_request.eval depths_done
 
--- the root move is the last ply of its line and the evaluation resolves captures; its worth is then not its child's value
+-- the root move is the last ply of its line and the evaluation resolves captures: its worth is not its child's value
 abbrev pub is_settled : GoRequest → ℕ → Bool
 is_settled go_request depths_done = depths_done == 0 && resolves_captures go_request.eval
 
@@ -172,7 +172,7 @@ pub record IsLine (go_request : GoRequest) (depths_done lines_done : ℕ) (walk 
   pub value_is : walk.value ≡ worth_at go_request depths_done code
   pub eval_is : walk.eval ≡ go_request.eval
 
--- the walk has made the first move of line `lines_done`, and its cost and searches are those of the rest of the line
+-- the walk has made the first move of line `lines_done`; its cost and searches are those of the rest of the line
 pub record BeginsLine (go_request : GoRequest) (depths_done lines_done : ℕ) (walk : Walked)
     : Type 0 where
   pub line : IsLine go_request depths_done lines_done walk

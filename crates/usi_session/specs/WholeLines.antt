@@ -7,7 +7,7 @@ abbrev pub last_byte : ℕ → List ℕ → ℕ
 last_byte before [] = before
 last_byte before (byte ∷ rest) = last_byte byte rest
 
--- the bytes are whole lines: there are none, or the last one is LF
+-- whole lines: no bytes, or bytes that end in LF
 abbrev pub AreWholeLines : List ℕ → Type 0
 AreWholeLines bytes = last_byte LINE_FEED bytes ≡ LINE_FEED
 

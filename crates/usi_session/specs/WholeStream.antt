@@ -36,10 +36,10 @@ state_from state (line ∷ rest) = state_from (answer_line state line).state res
 abbrev pub is_over_after_under : Setup → List ℕ → Bool
 is_over_after_under setup bytes = (state_from (initial_state_under setup) (lines bytes)).is_over
 
--- the replies of a new session under a setup to a whole stream of bytes
+-- the replies of a new session under a setup to these bytes
 abbrev pub replies_under : Setup → List ℕ → List ℕ
 replies_under setup bytes = replies_from (initial_state_under setup) (lines bytes)
 
--- the replies of a new session under the default setup to a whole stream of bytes
+-- the replies of a new session under the default setup to these bytes
 abbrev pub replies : List ℕ → List ℕ
 replies bytes = replies_under default_setup bytes

@@ -18,7 +18,7 @@ quiet read reads written = record {
   outcome = None;
 }
 
--- these calls follow a flush under any setup: they read nothing, write these bytes, leave them flushed or not, and ask for this result
+-- under any setup, once all is flushed, these calls may follow: they read nothing, write these bytes, leave them flushed or not, and ask for this result
 pub record Speaks (calls : List Call) (bytes : List ℕ) (is_flushed : Bool)
     (outcome : Option (Result (Unit {0}) StdioFault)) : Type 0 where
   pub dialogue : (setup : Setup) (read : List ℕ) (reads : ℕ) (written : List ℕ)

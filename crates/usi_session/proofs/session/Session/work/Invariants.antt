@@ -3,7 +3,7 @@ use Rattle.usi_session.specs.Due.{load, turns, EndsSearches, KeepsDue}
 use Rattle.usi_session.specs.Known.{IsAllKnown, KeepsAnswers}
 use Rattle.usi_session.proofs.session.Session.work.Given as goal
 
--- the debt is unchanged, and each step made lowers the load
+-- the replies due stay, and each step made lowers the load
 abbrev pub invariant-turns : goal.invariant-turns
 invariant-turns g l = record {
   kept : KeepsDue l.fn.self l.self;
