@@ -75,8 +75,8 @@ impl<S: BuildHasher, A: Allocator + Copy> Host<S, A> {
     }
 
     /// A host without sessions, with an empty table. It holds at most `slots` sessions at a time,
-    /// from 1 to 1,024, and at most `entries` positions, from 1 to 1,000,000. The only fault is
-    /// `OutOfMemory`.
+    /// from 1 to 1,024; the table holds at most `entries` entries, from 1 to 1,000,000. The only
+    /// fault is `OutOfMemory`.
     pub fn with_setup(
         alloc: A,
         setup: Setup,
@@ -126,8 +126,7 @@ impl<S: BuildHasher, A: Allocator + Copy> Host<S, A> {
         self.setup
     }
 
-    /// How often the table had no memory for a searched position, and stored nothing. The count
-    /// saturates.
+    /// The entries that the table had no memory to store. The count saturates.
     pub fn refused_notes(&self) -> u64
         ensures { result ≡ self.now.table.refused }
     {

@@ -22,7 +22,7 @@ pub struct Round {
     pub refused: usize,
     /// The steps of the works that succeeded.
     pub steps: u64,
-    /// The `bestmove` lines queued, one for each `go` that was answered.
+    /// The `bestmove` lines queued; a held one counts when it is written.
     pub bestmoves: u64,
 }
 

@@ -30,7 +30,7 @@ is_called_then called a b c first second = record {
   each = calls_and_calls called a b c first.calls second.calls first.each second.each;
 }
 
--- the last call stays last after earlier ones
+-- the last of later calls is the last of all
 ends_later : {M : Type 0} (called : M → Call → M → Type 0) (a b c : M) (call : Call)
     → IsCalled called a b → EndsWith called b c call → EndsWith called a c call
 ends_later called a b c call first last = record {

@@ -207,7 +207,7 @@ left_more : {setup : Setup} (before now new : Report) (s t : SessionView) (reads
 left_more {setup} before now new s t reads chunk r w x =
     w.left x ∙ (r.b.left (chunk ++ x) ∙ ap (λ xs. state_from (initial_state_under setup) (lines xs)) (sym (append_assoc r.b.read chunk x)))
 
--- the calls before and after a chunk
+-- once a chunk was read, all is flushed and no result is asked for
 stands_quiet : {setup : Setup} (before now : Report) (s : SessionView) (reads : ℕ) (chunk : List ℕ) (r : IsRead setup before now s reads chunk) → 0 < length chunk → after_calls no_call r.calls ≡ quiet (r.b.read ++ chunk) (reads + 1) r.b.made
 stands_quiet {setup} before now s reads chunk r some =
     r.stands ∙ ap (λ o. record (quiet (r.b.read ++ chunk) (reads + 1) r.b.made) { outcome = o }) (read_goes_on chunk some)
