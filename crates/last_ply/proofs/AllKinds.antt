@@ -1,4 +1,4 @@
--- What holds of the drops of each kind holds of all.
+-- A fact about the drops of each kind holds of all drops.
 use Rattle.shogi_core.specs.declared.piece.Kind.{Kind}
 use Rattle.shogi_core.specs.declared.piece.Kind.TheVariants as kinds
 use Rattle.shogi_core.specs.Position.{Shogi}

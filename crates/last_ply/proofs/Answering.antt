@@ -1,4 +1,4 @@
--- In check, a piece that reaches no square where the check is answered has no legal move.
+-- In check, a piece that reaches no evasion square has no legal move.
 use Rattle.std.proofs.Common.{◌≡◌, ◌<◌, ◌-◌, ◌^◌, ℕ, Bool, true, false, not, bit_and, bit_or, sym, ap, ◌∙◌, arith}
 use Rattle.std.proofs.lemmas.Bool.{and_parts, and_from, both_ways, or_parts, true_from_ne_false}
 use Rattle.shogi_core.specs.declared.moves.Move.TheVariants.{Board}
@@ -20,7 +20,7 @@ use Rattle.last_ply.specs.LastPly.{is_legal_board_move, HasNoneFrom, HasReachers
 use Rattle.last_ply.proofs.Scores.{legal_parts}
 use Rattle.last_ply.proofs.Squares.{out_within}
 
--- a legal move of what is no king ends where the check is answered
+-- in check, a legal move of a piece other than the king ends on an evasion square
 answers_on : (p : Shogi) (checked : Bool) (pinned_or_king from n : ℕ) (promote : Bool) → IsValid p → IsCheckInfo p checked pinned_or_king → checked ≡ true → from < 81 → n < 81 → is_own p from ≡ true → is_king p.side (piece_at p.cells from) ≡ false
     → is_legal_board_move p from n promote ≡ true → has_bit pinned_or_king n ≡ true
 answers_on p checked pinned_or_king from n promote v g check hf hn own non_promoting l =

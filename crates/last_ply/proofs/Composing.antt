@@ -1,4 +1,4 @@
--- What the scores of moves and the mates among them make of a node with one ply left.
+-- The value and the best move of a node with one ply left, from the scores and mates of its moves.
 use Rattle.std.proofs.Common.{◌≡◌, ◌≢◌, ◌<◌, ◌⊎◌, ℕ, ℤ, pos, ◌-ℤ◌, ◌≤ℤ◌, List, [], ◌∷◌, true, Some, refl, ap, ◌∙◌, sym, subst, arith, inl, inr}
 use Rattle.std.proofs.lemmas.Int.{ints}
 use Rattle.std.specs.Prelude.{◌==◌}
@@ -34,7 +34,7 @@ some_or_none (x ∷ xs) = inr (λ e. cc)
 pub none_left : (q : Shogi) → ((legal_codes q ≢ []) → ⊥) → legal_codes q ≡ []
 none_left q not_some = elim (some_or_none (legal_codes q)) [ inl none ↦ none | inr some ↦ absurd (not_some some) ]
 
--- what a move is worth at depth 1: its score, or a mate
+-- the worth of a move at depth 1: its score, or that of a mate
 pub worth_some : (p : Shogi) (e : Eval) (n : ℕ) → LeavesSome p n → worth p e 0 n ≡ score_at p e n
 worth_some p e n s = ap (λ (v : ℤ). pos 0 -ℤ v) (ended_some p e n s)
 
@@ -43,7 +43,7 @@ worth_none p e n none =
     let v : ended p e n ≡ lost_value 0 = ended_none p e n none in
     omega (arith, ints, v)
 
--- what a legal move scores lies within the bounds of material, settled or not
+-- the score of a legal move lies within the bounds of material
 pub score_bounds : (p : Shogi) (e : Eval) (n : ℕ) → IsValid p → is_in n (legal_codes p) ≡ true → ((pos 0 -ℤ pos POINTS_MAX) ≤ℤ score_at p e n) × (score_at p e n ≤ℤ pos POINTS_MAX)
 score_bounds p e n ok i =
     let b : IsBounded (leaf_after p e n) = left_bounded p e n (after_valid p n ok i) in
@@ -58,7 +58,7 @@ raw_bounds p e n ok i =
     let high : material_of (after_code p n) e ≤ℤ pos POINTS_MAX = b.1 in
     (omega (arith, ints), omega (arith, ints))
 
--- a legal move scores less than a mate, and no more than it is worth
+-- a legal move scores less than a mate, and at most its worth
 pub record IsScored (p : Shogi) (e : Eval) (n : ℕ) : Type 0 where
   pub worth_is : score_at p e n ≤ℤ worth p e 0 n
   pub small : score_at p e n ≤ℤ pos POINTS_MAX
@@ -73,7 +73,7 @@ scored p e n ok i =
       | inr some ↦ (let q : worth p e 0 n ≡ score_at p e n = worth_some p e n some in record { worth_is = omega (arith, ints, q); small = high; most = omega (arith, ints, q, high) })
     ]
 
--- a score that is reached bounds the value from below, whatever the other side may do
+-- the score of a legal move bounds the value from below
 pub at_least : (p : Shogi) (e : Eval) (v : ℤ) → IsValid p → HasScore p e v → v ≤ℤ value p e 1
 at_least p e v ok h =
     let s : IsScored p e h.code = scored p e h.code ok h.listed in
@@ -81,13 +81,13 @@ at_least p e v ok h =
     let m : score_at p e h.code ≤ℤ worth p e 0 h.code = s.worth_is in
     cut p e 1 h.code v (omega arith) h.listed (omega (arith, ints))
 
--- so does a mate
+-- a mate bounds the value from below
 pub mate_at_least : (p : Shogi) (e : Eval) → HasMate p → MATE ≤ℤ value p e 1
 mate_at_least p e h =
     let q : worth p e 0 h.code ≡ MATE = worth_none p e h.code h.none in
     cut p e 1 h.code MATE (omega arith) h.listed (omega (arith, ints))
 
--- what each move is worth at most, the position is
+-- a bound of the worth of each move bounds the value
 worth_at_most : (p : Shogi) (e : Eval) (v : ℤ) → ((n : ℕ) → is_in n (legal_codes p) ≡ true → worth p e 0 n ≤ℤ v) → IsNoLoss p v → value p e 1 ≤ℤ v
 worth_at_most p e v h lost = go (legal_codes p) refl
   where
@@ -99,15 +99,15 @@ worth_at_most p e v h lost = go (legal_codes p) refl
         let least : greatest_or (lost_value 1) (worth p e 0) (legal_codes p) ≤ℤ v = greatest_or-least (lost_value 1) (worth p e 0) (legal_codes p) m v here h in
         omega (arith, ints)
 
--- no position is worth more than a mate at once
+-- no value exceeds that of a mate at once
 pub at_most_mate : (p : Shogi) (e : Eval) → IsValid p → value p e 1 ≤ℤ MATE
 at_most_mate p e ok = worth_at_most p e MATE (λ n i. (scored p e n ok i).most) (inl (omega (arith, ints)))
 
--- without a mate, what no move scores more than bounds the value from above
+-- without a mate, a bound of all scores bounds the value
 pub at_most : (p : Shogi) (e : Eval) (v : ℤ) → HasNoMate p → ScoresAtMost p e v → IsNoLoss p v → value p e 1 ≤ℤ v
 at_most p e v quiet most lost = worth_at_most p e v (λ n i. let q : worth p e 0 n ≡ score_at p e n = worth_some p e n (quiet n i) in let l : score_at p e n ≤ℤ v = most n i in omega (arith, ints)) lost
 
--- a move that is not the first of those that are worth v, where none is worth more
+-- a move is worth at most the bound for its code, if none is worth more than v and b is the first worth v
 before : (v w : ℤ) (b n : ℕ) → w ≤ℤ v → (n < b → w ≡ v → ⊥) → w ≤ℤ move_alpha v (Some b) n
 before v w b n most first = elim (cases_lt n b) [
   | inl low ↦ rw (lt-ltb n b low) (less (first low))
@@ -117,7 +117,7 @@ before v w b n most first = elim (cases_lt n b) [
     less : (w ≡ v → ⊥) → w ≤ℤ (v -ℤ pos 1)
     less ne = omega (arith, ints)
 
--- the first of the moves that are worth v, where none is worth more
+-- the first code of worth v covers the legal moves, if none is worth more
 covered : (p : Shogi) (e : Eval) (v : ℤ) (b : ℕ) → is_in b (legal_codes p) ≡ true → worth p e 0 b ≡ v → ((n : ℕ) → is_in n (legal_codes p) ≡ true → worth p e 0 n ≤ℤ v) → ((n : ℕ) → is_in n (legal_codes p) ≡ true → n < b → worth p e 0 n ≡ v → ⊥) → IsCovered (worth p e 0) (legal_codes p) [] v v (Some b)
 covered p e v b i is most first = record {
   among = λ n j. absurd (cc);
@@ -125,7 +125,7 @@ covered p e v b i is most first = record {
   reached = (i, is);
 }
 
--- the value and the best move, where a mate is the first one
+-- the value and the best move if the move is the first that mates
 pub mate_found : (p : Shogi) (e : Eval) (m : Move) → IsValid p → move_of (code_of m) ≡ Some m → IsFirstMate p (code_of m) → IsFound p e 1 MATE (Some m)
 mate_found p e m ok back l =
     found_best p e 1 MATE MATE [] m (Some m) (omega arith) (legal_rising p 0) back refl refl
@@ -137,7 +137,7 @@ mate_found p e m ok back l =
       | inr some ↦ (let w : worth p e 0 n ≡ score_at p e n = worth_some p e n some in let s : score_at p e n ≤ℤ pos POINTS_MAX = (scored p e n ok i).small in absurd (omega (arith, ints)))
     ]
 
--- and where no move mates, and this one is the first that scores the most
+-- the value and the best move if no move mates and the move is the first with the greatest score
 pub score_found : (p : Shogi) (e : Eval) (v : ℤ) (m : Move) → IsValid p → move_of (code_of m) ≡ Some m → HasNoMate p → ScoresAtMost p e v → IsLeast p (λ n. score_at p e n ≡ v) (code_of m) → IsFound p e 1 v (Some m)
 score_found p e v m ok back quiet most l =
     let same : (n : ℕ) → is_in n (legal_codes p) ≡ true → worth p e 0 n ≡ score_at p e n = λ n i. worth_some p e n (quiet n i) in

@@ -1,4 +1,4 @@
--- Drops after which the other side's king has an escape left.
+-- Drops after which the opponent's king has an escape left.
 use Rattle.std.proofs.Common.{◌≡◌, ◌≢◌, ◌<◌, ◌^◌, ◌-◌, ℕ, Bool, true, false, not, Option, Some, None, bit_and, bit_or, refl, sym, ap, ◌∙◌, subst, set, arith, inl, inr}
 use Rattle.std.specs.Prelude.{◌==◌, ◌||◌}
 use Rattle.std.specs.Int.{trailing_zeros, w128}
@@ -26,7 +26,7 @@ use Rattle.shogi_moves.proofs.Keeps.{is_safe_from_legal}
 use Rattle.shogi_moves.proofs.KeepsDrop.{IsSafeDrop, safe_drop}
 use Rattle.last_ply.specs.LastPly.{IsOutOfReach}
 
--- ---- squares from which a piece does not reach another one
+-- ---- squares from which a piece does not reach another square
 
 not_stepping : (piece : Piece) (steps square n : ℕ) → n < 81 → ((i : ℕ) → i < 81 → has_bit steps i ≡ has_step (record { color = opponent_of piece.color; role = piece.role }) square i) → has_bit steps n ≡ false → has_step piece n square ≡ false
 not_stepping piece steps square n h s out = false_from_ne_true (has_step piece n square) (λ e. both_ways (has_bit steps n) out (s n h ∙ step_both_ways piece n square h e))
@@ -45,7 +45,7 @@ out_of_lines piece steps lines square n h s l out cells =
       | inr slide ↦ both_ways (has_bit lines n) off.1 (l n h ∙ lined_aligned cells square n (slide_seen cells piece n square h slide))
     ])
 
--- ---- a drop that does not reach an escape is answered
+-- ---- a drop that does not reach an escape leaves a reply
 
 pub answered_drop : (p : Shogi) (kind : Kind) (escapes kings n e : ℕ) (piece : Piece) → IsValid p → AreEscapes p escapes → ((k : ℕ) → k < 81 → has_bit kings k ≡ is_king (opponent_of p.side) (piece_at p.cells k)) → kings < 2 ^ 81 → kings ≢ 0 → n < 81 → e < 81 → has_bit escapes e ≡ true → has_bit escapes n ≡ false → Some piece ≡ dropped p.side kind → IsOutOfReach piece n e → IsAnswered p (Drop kind n)
 answered_drop p kind escapes kings n e piece v a bits fits some hn he among off is out = λ legal.
@@ -71,7 +71,7 @@ answered_drop p kind escapes kings n e piece v a bits fits some hn he among off 
       | inr other ↦ absurd (both_ways (has_bit (mask_below 81 (λ i. not (i == e))) m) gone (has_bit-mask 81 (λ i. not (i == e)) m hm ∙ ap not (ne_eqb m e other)))
     ])
 
--- so is a move on the board, where the escape is on no line with the square that it leaves
+-- a move on the board that does not reach an escape leaves a reply if the escape is on no line with the square left
 pub answered_board : (p : Shogi) (from : ℕ) (promote : Bool) (escapes kings n e : ℕ) (piece : Piece) → IsValid p → AreEscapes p escapes → ((k : ℕ) → k < 81 → has_bit kings k ≡ is_king (opponent_of p.side) (piece_at p.cells k)) → kings < 2 ^ 81 → kings ≢ 0 → from < 81 → n < 81 → e < 81 → has_bit escapes e ≡ true → are_aligned from e ≡ false
     → piece_moved promote (piece_at p.cells from) ≡ Some piece → has_bit kings n ≡ false → e ≢ n → IsOutOfReach piece n e → IsAnswered p (Board from n promote)
 answered_board p from promote escapes kings n e piece v a bits fits some hf hn he among apart is off other out = λ legal.
@@ -99,18 +99,18 @@ answered_board p from promote escapes kings n e piece v a bits fits some hf hn h
     ])
     (λ m hm. has_bit-mask 81 (λ i. are_aligned from i) m hm)
 
--- a square off these, the kings and the escape
+-- a square outside the closing squares, the kings and the escape is in none of these
 pub apart_from : (closing marked kings e n : ℕ) → ((i : ℕ) → has_bit marked i ≡ (has_bit kings i || (i == e))) → has_bit (bit_or closing marked) n ≡ false → (has_bit closing n ≡ false) × (has_bit kings n ≡ false) × (e ≢ n)
 apart_from closing marked kings e n bits out =
     let two : (has_bit closing n ≡ false) × (has_bit marked n ≡ false) = or_parts (has_bit closing n) (has_bit marked n) (sym (has_bit-or closing marked n) ∙ out) in
     let off : (has_bit kings n ≡ false) × ((n == e) ≡ false) = or_parts (has_bit kings n) (n == e) (sym (bits n) ∙ two.1) in
     (two.0, off.0, λ same. both_ways (n == e) off.1 (eq-eqb n e (sym same)))
 
--- what is dropped on an escape is taken
+-- the king captures a piece dropped on an escape
 pub taken_there : (p : Shogi) (kind : Kind) (squares escapes kings n : ℕ) → IsValid p → escapes < 2 ^ 81 → AreEscapes p escapes → ((k : ℕ) → k < 81 → has_bit kings k ≡ is_king (opponent_of p.side) (piece_at p.cells k)) → kings < 2 ^ 81 → kings ≢ 0 → n < 81 → has_bit squares n ≡ true → has_bit (bit_and squares (2 ^ 128 - 1 - escapes)) n ≡ false → IsAnswered p (Drop kind n)
 taken_there p kind squares escapes kings n v among a bits fits some hn e out = λ legal. taken_drop p kind escapes kings n v hn a fits bits some
     (true_from_ne_false (has_bit escapes n) (λ off. both_ways (has_bit (bit_and squares (2 ^ 128 - 1 - escapes)) n) out (has_bit-and squares (2 ^ 128 - 1 - escapes) n ∙ and_from _ _ e (has_bit-not escapes n (omega (arith, among)) (omega arith) ∙ ap not off))))
 
--- a square that is kept no more was not among the closing ones
+-- a square that leaves the kept set is not a closing square
 pub not_closing : (kept closing n : ℕ) → has_bit (bit_and kept closing) n ≡ false → has_bit kept n ≡ true → has_bit closing n ≡ false
 not_closing kept closing n out still = false_from_ne_true (has_bit closing n) (λ set. both_ways (has_bit (bit_and kept closing) n) out (has_bit-and kept closing n ∙ and_from _ _ still set))

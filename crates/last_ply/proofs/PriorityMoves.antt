@@ -1,4 +1,4 @@
--- The legal move of least code that scores more than the node has.
+-- The legal move of least code that scores more than the node's material.
 use Rattle.std.proofs.Common.{◌≡◌, ◌<◌, ◌+◌, ◌*◌, ◌/◌, ◌%◌, ℕ, ℤ, ◌≤ℤ◌, ◌<ℤ◌, Bool, true, false, bit_and, bit_or, sym, ap, ◌∙◌, subst, arith, inl, inr}
 use Rattle.std.specs.Prelude.{◌==◌}
 use Rattle.std.proofs.lemmas.Int.{ints}
@@ -25,7 +25,7 @@ use Rattle.last_ply.specs.LastPly.{is_legal_board_move, score_at, IsFirstFrom, I
 use Rattle.last_ply.proofs.Scores.{by_moves, legal_end, legal_parts, score_drop, score_quiet}
 use Rattle.last_ply.proofs.Squares.{out_within}
 
--- a legal move that ends on no square of a capture or a promotion scores what the node has
+-- a legal move that neither captures nor may promote at its end scores the node's material
 pub quiet_end : (p : Shogi) (e : Eval) (from targets foe zone n : ℕ) (promote : Bool) → IsValid p → from < 81 → n < 81 → IsReach p from targets
     → ((n : ℕ) → n < 81 → has_bit foe n ≡ is_piece_of (opponent_of p.side) (piece_at p.cells n)) → ((n : ℕ) → n < 81 → has_bit zone n ≡ may_promote (piece_at p.cells from) from n)
     → has_bit (bit_and targets (bit_or foe zone)) n ≡ false → is_legal_board_move p from n promote ≡ true → score_at p e (code_of (Board from n promote)) ≡ material_of p e
@@ -38,7 +38,7 @@ quiet_end p e from targets foe zone n promote v hf h rb fb zb out l = go promote
     go true l = absurd (both_ways (has_bit zone n) (off true l).1 (zb n h ∙ (legal_parts p from n true hf h l).2))
     go false l = score_quiet p e from n v hf h l (sym (fb n h) ∙ (off false l).0)
 
--- the first move of the first piece that has one is the least of all
+-- the first move of the first piece with such a move is the first of all
 pub first_of_all : (node : Evaluated) (v : ℤ) (from code : ℕ) → from < 81 → IsFirstFrom node v from code
     → ((n : ℕ) → n < from → is_own node.position n ≡ true → NoneScoresFrom node v n) → IsFirstToScore node v code
 first_of_all node v from code hf f before = record {
@@ -64,7 +64,7 @@ first_of_all node v from code hf f before = record {
       ]);
 }
 
--- where no piece has one, there is none: drops do not gain
+-- if no piece's move has a score above the material, no move has, as drops gain nothing
 pub none_of_all : (node : Evaluated) (v : ℤ) → IsValid node.position → material_of node.position node.eval <ℤ v
     → OnOwn node.position (NoneScoresFrom node v) → NoneScores node v
 none_of_all node v ok more each = by_moves node.position (λ code. Scores node v code → ⊥)

@@ -1,4 +1,4 @@
-//! What is known of a node with one ply left, within a window.
+//! The entry that answers a search of a node with one ply left.
 
 ghost use Rattle.std.specs.Prelude.{◌≡◌, ◌≤ℤ◌, ◌<ℤ◌, IfSome, IsNone, true, false};
 ghost use Rattle.minimax.specs.Entries.{IsConclusive};
@@ -12,7 +12,7 @@ use shogi_core::bits::lowest;
 use shogi_eval::Node;
 use shogi_moves::has_legal;
 
-/// A node with one ply left, and the window in which its value is asked for.
+/// A node with one ply left, and the window of its search.
 #[derive(Clone, Copy)]
 struct WindowedNode<'a> {
     frontier: &'a FrontierNode<'a>,
@@ -22,8 +22,8 @@ struct WindowedNode<'a> {
 }
 
 impl MovingPiece<'_> {
-    /// Whether it has a legal move that takes nothing and does not promote: that scores what the
-    /// node has.
+    /// Whether the piece has a legal quiet move (no capture, no promotion), which scores the node's
+    /// material.
     fn has_quiet_move(&self) -> bool
         ensures { result ≡ true → NodeHasScore self.now.frontier.now.node.now
             (base_of self.now.frontier.now.node.now) }
@@ -41,8 +41,7 @@ impl MovingPiece<'_> {
 }
 
 impl FrontierNode<'_> {
-    /// Whether a piece on the board has a legal move that takes nothing and does not promote: it
-    /// scores what the node has.
+    /// Whether a piece on the board has a legal quiet move, which scores the node's material.
     fn has_quiet_move(&self) -> bool
         ensures { result ≡ true → NodeHasScore self.now.node.now
             (base_of self.now.node.now) }
@@ -58,7 +57,7 @@ impl FrontierNode<'_> {
 }
 
 impl WindowedNode<'_> {
-    /// What is known where some legal move leaves the other side without one.
+    /// The entry that answers the window if some legal move mates.
     fn mate_entry(&self) -> Option<Entry>
         ensures truth { IfSome result (IsTrueOf self.now.frontier.now.node.now) }
         ensures conclusive { IfSome result (IsConclusive self.now.alpha self.now.beta) }
@@ -82,7 +81,8 @@ impl WindowedNode<'_> {
         }
     }
 
-    /// What is known where no legal move scores more than this, unless that is enough.
+    /// The entry that answers the window, if no legal move scores more than `most` or `most` is at
+    /// least beta.
     fn resolve(&self, most: i32) -> Entry
         requires all { most <ℤ self.now.beta
             → NodeScoresAtMost self.now.frontier.now.node.now most }
@@ -110,7 +110,8 @@ impl WindowedNode<'_> {
         }
     }
 
-    /// The same where perhaps only drops are legal, of which all may score less than the node has.
+    /// The entry from the scores of all legal moves. Without a quiet move on the board only drops
+    /// may be legal, which may all score less than the material.
     fn resolve_by_enumeration(&self) -> Entry
         ensures truth { IsTrueOf self.now.frontier.now.node.now result }
         ensures conclusive { IsConclusive self.now.alpha self.now.beta result }
@@ -121,8 +122,9 @@ impl WindowedNode<'_> {
         self.resolve(self.frontier.best_score_of_all(self.alpha))
     }
 
-    /// What is known: enough for the window. What the node has is reached by a quiet move on the
-    /// board, if there is one.
+    /// The entry from captures and promotions alone. All moves are scored only if the node's
+    /// material exceeds alpha, no capture or promotion scores more, and no quiet move on the board
+    /// reaches it.
     fn resolve_by_pieces(&self) -> Entry
         ensures truth { IsTrueOf self.now.frontier.now.node.now result }
         ensures conclusive { IsConclusive self.now.alpha self.now.beta result }
@@ -136,7 +138,8 @@ impl WindowedNode<'_> {
     }
 }
 
-/// What is known of a node with one ply left: enough for the window.
+/// The entry of the node at depth 1 that answers the window (own choice): exact with the best move
+/// of least code, at least beta, or at most alpha. The value without a legal move is `-MATE - 1`.
 pub fn last_ply(node: &Node, alpha: i32, beta: i32) -> Entry
     requires open { alpha <ℤ beta }
     ensures truth { IsTrueEntry node.now.position node.now.eval 1 result }

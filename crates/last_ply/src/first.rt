@@ -1,4 +1,4 @@
-//! The legal move of least code that meets something.
+//! The legal move of least code that mates or has a given score.
 
 ghost use Rattle.std.specs.Prelude.{◌≡◌, ◌≤ℤ◌, ◌<ℤ◌, ℤ, true, false, IfSome, IsNone};
 ghost use Rattle.shogi_core.specs.Codes.{code_of};
@@ -16,7 +16,7 @@ use shogi_core::{Move, Square, Squares};
 use shogi_moves::Walk;
 
 impl MovingPiece<'_> {
-    /// Whether its move to the square is legal and scores this.
+    /// Whether the piece's move to the square is legal and has the score.
     fn is_gain(&self, to: Square, promote: bool, score: i32) -> bool
         ensures legal { result ≡ true → is_legal_to self.now to promote ≡ true }
         ensures scores { result ≡ true
@@ -34,8 +34,8 @@ impl MovingPiece<'_> {
         self.scored_to(to, promote, raw).scores(score)
     }
 
-    /// The squares at which a legal move of it may score this: where it is more than the node has,
-    /// those of captures and promotions.
+    /// The squares at which the piece's move may have the score. A score above the node's material
+    /// needs a capture or a promotion.
     fn ends_scoring(&self, score: i32) -> Squares
         ensures { NoneScoresAmong self.now.frontier.now.node.now score self.now.from result.bits }
     {
@@ -49,7 +49,7 @@ impl MovingPiece<'_> {
         self.targets & (self.frontier.foe | zone)
     }
 
-    /// Its move of least code that is legal and scores this.
+    /// The piece's legal move of least code with the score.
     fn first_to_score(&self, score: i32) -> Option<Move>
         ensures some { IfSome result (λ m. IsFirstFrom self.now.frontier.now.node.now
             score self.now.from (code_of m)) }
@@ -79,7 +79,7 @@ impl MovingPiece<'_> {
 }
 
 impl FrontierNode<'_> {
-    /// The legal move of least code that leaves the other side without one.
+    /// The legal move of least code that mates.
     pub fn first_mate(&self) -> Option<Move>
         ensures some { IfSome result (λ m. IsFirstMate self.now.node.now.position (code_of m)) }
         ensures if_none { IsNone result → HasNoMate self.now.node.now.position }
@@ -94,8 +94,8 @@ impl FrontierNode<'_> {
         None
     }
 
-    /// Those of the side's pieces of which a legal move may score this: where it is more than the
-    /// node has, those that may take or promote.
+    /// The pieces with a move that may have the score. A score above the material needs a capture
+    /// or a promotion.
     fn pieces_scoring(&self, score: i32) -> Squares
         ensures within { IsWithin result.bits self.now.own.bits }
         ensures others { OthersScoreElse self.now score result.bits }
@@ -106,7 +106,7 @@ impl FrontierNode<'_> {
         self.gainers(score - 1)
     }
 
-    /// The legal move on the board of least code that scores this.
+    /// The legal move on the board of least code with the score.
     fn first_on_board(&self, score: i32) -> Option<Move>
         ensures some { IfSome result (λ m. IsFirstToScore self.now.node.now score (code_of m)) }
         ensures if_none { IsNone result → NoneGains self.now.node.now score }
@@ -120,7 +120,8 @@ impl FrontierNode<'_> {
         None
     }
 
-    /// The legal move of least code that scores this.
+    /// The legal move of least code with the score. Pieces are tried first: drops have greater
+    /// codes, and none scores more than the material.
     pub fn first_with(&self, score: i32) -> Option<Move>
         ensures some { IfSome result (λ m. IsFirstToScore self.now.node.now score (code_of m)) }
         ensures if_none { IsNone result → NoneScores self.now.node.now score }
@@ -141,8 +142,7 @@ impl FrontierNode<'_> {
         None
     }
 
-    /// The most that a legal move scores, or the floor where that is no less, found by going
-    /// through all moves.
+    /// The greatest score of all legal moves, or `floor` if none exceeds it.
     pub fn best_score_of_all(&self, floor: i32) -> i32
         ensures least { floor ≤ℤ result }
         ensures all { NodeScoresAtMost self.now.node.now result }

@@ -1,4 +1,4 @@
-//! A node with one ply left as it is looked at.
+//! A node with one ply left, prepared for looking at its moves.
 
 ghost use Rattle.std.specs.Prelude.{◌≡◌};
 ghost use Rattle.shogi_core.specs.Bits.{HasBits};
@@ -10,8 +10,8 @@ use shogi_core::{Square, Squares};
 use shogi_eval::Node;
 use shogi_moves::{KnownPosition, check_info_of};
 
-/// A node, and what is known of it: of checks, which squares the pieces of the side to move stand
-/// on, and those of the other side.
+/// A node with its check info, the squares of the pieces of the side to move, and those of the
+/// opponent's.
 #[derive(Clone, Copy)]
 pub struct FrontierNode<'a> {
     pub node: &'a Node,
@@ -27,7 +27,7 @@ pub struct FrontierNode<'a> {
 impl FrontierNode<'_> {
     ghost use Rattle.last_ply.specs.LastPly.{IsReach};
 
-    /// The frontier node.
+    /// Prepares the node.
     pub fn of(node: &Node) -> FrontierNode<'_>
         ensures { result.node.now ≡ node.now }
     {
@@ -42,8 +42,7 @@ impl FrontierNode<'_> {
         }
     }
 
-    /// The squares that what stands on the square reaches, but those on which one of the side's
-    /// pieces stands.
+    /// The squares that the piece on `from` reaches, without those of its own side's pieces.
     #[inline(always)]
     pub fn targets(&self, from: Square) -> Squares
         ensures { IsReach self.now.node.now.position from result.bits }

@@ -1,4 +1,4 @@
-//! What the legal moves of a node score at most.
+//! Upper bounds of the scores of a node's legal moves.
 
 ghost use Rattle.std.specs.Prelude.{◌≡◌, ◌≤◌, ◌*◌, ◌≤ℤ◌, ◌<ℤ◌, true, bit_and};
 ghost use Rattle.shogi_moves.specs.CheckInfo.{is_check};
@@ -15,7 +15,7 @@ use shogi_core::{Color, Piece, Role, Square, Squares, line_mask, near_squares};
 use shogi_eval::{Eval, PROMOTION_GAIN_MAX, promotion_gain, taken_gain};
 use shogi_moves::takers;
 
-/// The most that the capture of a piece that does not slide gains, that of a gold.
+/// The most points that the capture of a non-slider gains: those for a gold.
 fn max_nonslider_gain(e: Eval) -> u32
     ensures most { NonSliderGainAtMost e result }
     ensures least { PROMOTION_GAIN_MAX ≤ result }
@@ -29,7 +29,8 @@ fn max_nonslider_gain(e: Eval) -> u32
 }
 
 impl MovingPiece<'_> {
-    /// What its move to the square scores, or the floor where it is illegal or that is no less.
+    /// The score of the piece's move to the square if it is legal and exceeds `floor`; `floor`
+    /// otherwise.
     fn best_score_to(&self, to: Square, promote: bool, floor: i32) -> i32
         ensures least { floor ≤ℤ result }
         ensures at { NodeScoresToAtMost self.now.frontier.now.node.now
@@ -46,8 +47,8 @@ impl MovingPiece<'_> {
         self.scored_to(to, promote, raw).score_above(floor)
     }
 
-    /// The most that its legal moves to these squares score, promoting or not, or the floor where
-    /// that is no less.
+    /// The greatest score of the piece's legal moves to `squares`, promoting or not, or `floor` if
+    /// none exceeds it.
     #[inline(always)]
     fn best_score_among(&self, promote: bool, squares: Squares, floor: i32) -> i32
         ensures least { floor ≤ℤ result }
@@ -63,8 +64,8 @@ impl MovingPiece<'_> {
         best
     }
 
-    /// The most that its legal moves score, or the floor where that is no less; a move that takes
-    /// nothing and does not promote scores what the node has.
+    /// The greatest score of the piece's legal captures and promotions, or `floor` if none exceeds
+    /// it. Any other legal move scores the node's material.
     fn best_score(&self, floor: i32) -> i32
         ensures least { floor ≤ℤ result }
         ensures all { base_of self.now.frontier.now.node.now ≤ℤ floor
@@ -84,7 +85,7 @@ impl MovingPiece<'_> {
 }
 
 impl FrontierNode<'_> {
-    /// Squares outside which nothing reaches the square.
+    /// A superset of the squares whose pieces reach `square`.
     fn squares_reaching(&self, square: Square) -> Squares
         ensures { HasReachers self.now.node.now.position.cells result.bits square }
     {
@@ -93,8 +94,8 @@ impl FrontierNode<'_> {
         near_squares(square) | board.sliders() & line_mask(square)
     }
 
-    /// Squares outside which nothing takes on the square; none where that scores no more than the
-    /// floor, whatever takes and promotes.
+    /// A superset of the squares whose pieces may capture on `square` for more than `floor`; none
+    /// if no capture there scores more, even with the dearest promotion.
     fn squares_taking(&self, square: Square, floor: i32) -> Squares
         ensures { Outside result.bits (TakesLittle self.now.node.now floor square) }
     {
@@ -106,7 +107,8 @@ impl FrontierNode<'_> {
         self.squares_reaching(square)
     }
 
-    /// Those of the side's pieces that may take one of the victims and score more than the floor.
+    /// The pieces of the side to move that may capture one of the `victims` and score more than
+    /// `floor`.
     fn takers_above(&self, victims: Squares, floor: i32) -> Squares
         ensures within { IsWithin result.bits self.now.own.bits }
         ensures others { OthersTakeLittle self.now floor victims.bits result.bits }
@@ -119,7 +121,7 @@ impl FrontierNode<'_> {
         self.own & squares
     }
 
-    /// Squares outside which nothing reaches one of these.
+    /// A superset of the squares whose pieces reach one of `squares`.
     fn squares_reaching_some(&self, squares: Squares) -> Squares
         ensures { OnEach squares.bits (HasReachers self.now.node.now.position.cells result.bits) }
     {
@@ -131,8 +133,8 @@ impl FrontierNode<'_> {
         found
     }
 
-    /// In check, the side's kings and those of its pieces that may reach a square where it is answered:
-    /// no other one has a legal move.
+    /// In check, the kings of the side to move and its pieces that may reach an evasion square; no
+    /// other piece has a legal move.
     fn evaders(&self) -> Squares
         requires { is_check self.now.known.info ≡ true }
         ensures within { IsWithin result.bits self.now.own.bits }
@@ -145,7 +147,7 @@ impl FrontierNode<'_> {
         self.own & (p.as_board().kings(p.side()) | reaching)
     }
 
-    /// The side's pieces, in check without those that surely have no legal move.
+    /// The pieces of the side to move; in check only those that may evade it.
     pub fn movable(&self) -> Squares
         ensures within { IsWithin result.bits self.now.own.bits }
         ensures others { OthersCannotMove self.now result.bits }
@@ -156,9 +158,9 @@ impl FrontierNode<'_> {
         self.own
     }
 
-    /// Those of the side's pieces that may score more than the floor: with room for any promotion,
-    /// they take something; with room for the capture of any piece that does not slide, something
-    /// dear enough, and with room for both, one that slides. In check they may answer it.
+    /// The pieces of the side to move that may score more than `floor`; in check, those that may
+    /// evade it. They capture a slider, a piece dear enough or any piece, or only promote, as the
+    /// gap from the node's material to `floor` allows.
     pub fn gainers(&self, floor: i32) -> Squares
         ensures within { IsWithin result.bits self.now.own.bits }
         ensures others { base_of self.now.node.now ≤ℤ floor
@@ -184,8 +186,8 @@ impl FrontierNode<'_> {
         takers | self.own & (squares_near_zone(p.side()) | sliders)
     }
 
-    /// The most that a legal move scores, or the greater of alpha and what the node has where that
-    /// is no less; where that is enough for beta, some number from beta on that a legal move scores.
+    /// The greatest score of a legal move, or the greater of alpha and the node's material if none
+    /// exceeds both. Stops at the first score of at least beta.
     pub fn best_score(&self, alpha: i32, beta: i32) -> i32
         ensures alpha { alpha ≤ℤ result }
         ensures base { base_of self.now.node.now ≤ℤ result }

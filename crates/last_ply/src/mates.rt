@@ -1,4 +1,4 @@
-//! Whether a legal move leaves the other side without one.
+//! Whether a legal move mates: it leaves the opponent without a legal move, in check or not.
 
 ghost use Rattle.std.specs.Prelude.{[], ◌≢◌, ◌≡◌, ◌<◌, true, false, ℕ, bit_and};
 ghost use Rattle.std.proofs.Props.{props};
@@ -16,23 +16,23 @@ use shogi_core::{Kind, Move, Piece, Position, Role, Square, Squares, line_mask, 
 use shogi_moves::{Destinations, KnownDrops, Origin, OwnPiece, drop_squares, has_legal, is_legal};
 use shogi_replies::{KnownReplies, ReplyInfo, has_two, king_takes, some_escapes};
 
-/// A frontier node, and what shows of most moves that the other side surely has one after them.
+/// A frontier node with its known replies: after most moves the opponent surely has a legal reply.
 #[derive(Clone, Copy)]
 pub struct MateSearch<'a> {
     pub frontier: FrontierNode<'a>,
-    /// With three of the squares to which the other side's king may go, or fewer where there are no
-    /// more.
+    /// The known replies, with the first three escapes of the opponent's king, or fewer if there
+    /// are no more.
     pub replies: KnownReplies<'a>,
-    /// The empty squares on which a held piece may be dropped.
+    /// The empty squares on which a piece in hand may be dropped.
     pub squares: Squares,
-    /// Whether the other side surely has a legal move after each one that gives it no check.
+    /// Whether the opponent surely has a legal reply to every move that gives no check.
     pub spared: bool,
     ghost same: { replies.position.now ≡ frontier.node.now.position },
     ghost dropping: { AreDropSquares frontier.node.now.position squares.bits } by { Prim.hlevel props },
     ghost others: { spared ≡ true → HasOthers replies.info.free_movers.bits },
 }
 
-/// The pieces of the side to move, but its king, next to the square or a knight's jump away.
+/// The pieces of the side to move, without its king, next to `to` or a knight's jump from it.
 fn pieces_near(p: &Position, to: Square) -> Squares {
     let side = p.side();
     let king = Piece {
@@ -48,7 +48,7 @@ fn pieces_near(p: &Position, to: Square) -> Squares {
     (board.own(side) & near).without(board.kings(side))
 }
 
-/// Whether the piece on the square may legally take there, by a step and without promotion.
+/// Whether the piece on `from` may legally capture on `to` by a step without promotion.
 fn takes_legally(p: &Position, from: Square, to: Square) -> bool
     ensures { result ≡ true → legal_codes p.now ≢ [] }
 {
@@ -63,7 +63,8 @@ fn takes_legally(p: &Position, from: Square, to: Square) -> bool
     step_squares(piece, from).has(to) && is_legal(p, m)
 }
 
-/// Whether such a piece surely may legally take what the move put on its end.
+/// True only if a piece near the move's destination may legally recapture there. The position is
+/// the one after the move.
 fn retakes(p: &Position, m: &Move) -> bool
     ensures { result ≡ true → legal_codes p.now ≢ [] }
 {
@@ -77,7 +78,7 @@ fn retakes(p: &Position, m: &Move) -> bool
     false
 }
 
-/// The squares from which the piece may reach that one, whatever stands between.
+/// A superset of the squares from which the piece reaches `square`, whatever stands between.
 fn closing_squares(piece: Piece, square: Square) -> Squares
     ensures { Outside result.bits (λ n. IsOutOfReach piece n square) }
 {
@@ -94,7 +95,8 @@ fn closing_squares(piece: Piece, square: Square) -> Squares
 }
 
 impl FrontierNode<'_> {
-    /// Whether the legal move leaves the other side without one.
+    /// Whether the legal move mates. Captures of the moved piece, by the king and by pieces near
+    /// it, are tried before all replies.
     pub fn mates(&self, m: &Move) -> bool
         requires { is_legal self.now.node.now.position m.now ≡ true }
         ensures mated { result ≡ true → IsMate self.now.node.now.position m.now }
@@ -112,7 +114,7 @@ impl FrontierNode<'_> {
         !has_legal(next.as_position())
     }
 
-    /// Whether some legal move leaves the other side without one.
+    /// Whether some legal move mates.
     pub fn has_mate(&self) -> bool
         ensures some { result ≡ true → HasMate self.now.node.now.position }
         ensures if_none { result ≡ false → HasNoMate self.now.node.now.position }
@@ -138,15 +140,14 @@ impl MateSearch<'_> {
         }
     }
 
-    /// Whether the other side's king surely has a way out after the legal move.
+    /// True only if the opponent's king has an escape after the legal move.
     fn leaves_way(&self, m: &Move) -> bool
         ensures { result ≡ true → IsAnswered self.now.frontier.node.now.position m.now }
     {
         self.replies.leaves_escape(m) || self.replies.leaves_king_move(m)
     }
 
-    /// Whether the legal move leaves the other side without one; where its king surely has a way, the
-    /// move is not made.
+    /// Whether the legal move mates. Returns early if an escape of the king is certain.
     #[inline(always)]
     fn tries(&self, m: &Move) -> bool
         requires { is_legal self.now.frontier.node.now.position m.now ≡ true }
@@ -161,7 +162,8 @@ impl MateSearch<'_> {
         self.frontier.mates(m)
     }
 
-    /// The same; where a reply shows after a move that gives no check, nothing more is asked.
+    /// Whether the legal move mates. Returns early if the move gives no check and leaves a known
+    /// reply.
     pub fn mates_past(&self, m: &Move) -> bool
         requires { is_legal self.now.frontier.node.now.position m.now ≡ true }
         ensures mated { result ≡ true → IsMate self.now.frontier.node.now.position m.now }
@@ -171,7 +173,7 @@ impl MateSearch<'_> {
         !self.replies.guarantees_reply(m) && self.tries(m)
     }
 
-    /// Whether one of the legal moves from there to these squares does.
+    /// Whether a legal move of `origin` to one of `ends` mates.
     #[inline(always)]
     fn mates_among(&self, origin: &Origin, ends: Squares) -> bool
         requires { AreLegalEnds self.now.frontier.node.now.position origin.now ends.bits }
@@ -190,8 +192,8 @@ impl MateSearch<'_> {
         false
     }
 
-    /// Whether the other side's king sees neither the square nor one of the ends, and that side
-    /// surely has a legal move after each one that gives it no check.
+    /// Whether neither `from` nor any of `ends` is in the king view and the opponent has a reply to
+    /// every move without check.
     fn is_unseen(&self, from: Square, ends: Squares) -> bool
         ensures others { result ≡ true → HasOthers self.now.replies.info.free_movers.bits }
         ensures unseen { result ≡ true → IsUnseen self.now.replies.info from ends.bits }
@@ -199,8 +201,9 @@ impl MateSearch<'_> {
         self.spared && self.replies.info.is_unseen(from, ends)
     }
 
-    /// Those of the ends from which what moves there from the square, this piece, may reach each
-    /// escape on no line with that square, and those on one: elsewhere the king has one left.
+    /// The `ends` on which `piece`, come from `from`, occupies or may reach every escape off the
+    /// lines through `from`, and those on a king. From the others the king keeps an escape. All
+    /// `ends` if there is no king.
     #[inline(always)]
     fn closing_ends(&self, from: Square, promote: bool, piece: Piece, ends: Squares) -> Squares
         requires { IsPieceMoved self.now.frontier.node.now.position from promote piece }
@@ -226,8 +229,8 @@ impl MateSearch<'_> {
         kept
     }
 
-    /// Those of the ends after which, once this piece has moved there from the square, it is not
-    /// certain that the other side has a legal move.
+    /// The `ends` at which the opponent may be without a legal reply once `piece` has moved there
+    /// from `from`.
     fn doubtful_among(&self, from: Square, promote: bool, piece: Piece, ends: Squares) -> Squares
         requires { IsPieceMoved self.now.frontier.node.now.position from promote piece }
         ensures within { IsWithin result.bits ends.bits }
@@ -239,8 +242,8 @@ impl MateSearch<'_> {
         closing.without(self.replies.non_checking_destinations(&origin, closing))
     }
 
-    /// Where what stands on the square may go, without promotion and with it, legally or not, so that
-    /// it is not certain that the other side has a legal move after it.
+    /// The destinations of the piece on `from` at which the opponent may be without a legal reply,
+    /// whether the move itself is legal or not.
     fn doubtful_ends(&self, from: Square) -> Destinations
         ensures non_promoting { FrontierDoubtfulEnds self.now.frontier
             from false result.non_promoting.bits }
@@ -281,7 +284,7 @@ impl MateSearch<'_> {
         }
     }
 
-    /// Whether a legal move of one of the side's pieces leaves the other side without one.
+    /// Whether a legal move of the piece on `from` mates.
     fn mates_from(&self, from: Square) -> bool
         requires own { is_own self.now.frontier.node.now.position from ≡ true }
         ensures some { result ≡ true → HasMate self.now.frontier.node.now.position }
@@ -310,15 +313,15 @@ impl MateSearch<'_> {
             || self.mates_among(&promoting, ends.promoting & doubtful.promoting)
     }
 
-    /// Pieces of the side that are far from the other side's king, after each of whose moves that
-    /// side surely has one.
+    /// Pieces of the side to move far from the opponent's king, whose every move surely leaves a
+    /// legal reply.
     fn non_mating_pieces(&self) -> Squares
         ensures { OnEach result.bits (LeaveSomeFrom self.now.frontier.node.now.position) }
     {
         self.replies.distant_pieces()
     }
 
-    /// Whether a legal move on the board leaves the other side without one.
+    /// Whether a legal move on the board mates.
     fn has_board_mate(&self) -> bool
         ensures some { result ≡ true → HasMate self.now.frontier.node.now.position }
         ensures if_none { result ≡ false → BoardLeavesSome self.now.frontier.node.now.position }
@@ -336,8 +339,9 @@ impl MateSearch<'_> {
         false
     }
 
-    /// Those of the squares on which a dropped piece of the kind may reach each escape, and does not
-    /// stand on one: elsewhere the king has one left, or takes it.
+    /// The `squares` off the escapes from which a dropped piece of the kind may reach every escape.
+    /// From others the king keeps an escape or captures the piece. All `squares` if there is no
+    /// king.
     fn closing_drops(&self, kind: Kind, squares: Squares) -> Squares
         ensures among { IsWithin result.bits squares.bits }
         ensures answered { FrontierDropsAnsweredOff self.now.frontier
@@ -364,7 +368,7 @@ impl MateSearch<'_> {
         kept
     }
 
-    /// Whether a legal drop of the kind, if that is held, leaves the other side without a legal move.
+    /// Whether a legal drop of the kind mates. `mates_by` asks this only for a kind in hand.
     #[inline(never)]
     fn mates_by_held(&self, kind: Kind) -> bool
         ensures some { result ≡ true → HasMate self.now.frontier.node.now.position }
@@ -388,7 +392,7 @@ impl MateSearch<'_> {
         self.mates_among(&origin, ends & doubtful)
     }
 
-    /// Whether a legal drop of the kind leaves the other side without a legal move.
+    /// Whether a legal drop of the kind mates.
     #[inline(always)]
     fn mates_by(&self, kind: Kind) -> bool
         ensures some { result ≡ true → HasMate self.now.frontier.node.now.position }
@@ -401,7 +405,7 @@ impl MateSearch<'_> {
         self.mates_by_held(kind)
     }
 
-    /// Whether a legal drop leaves the other side without a legal move.
+    /// Whether a legal drop of any kind mates.
     #[tactic(auto, using(crate::proofs::AllKinds::drops_of_all_kinds))]
     fn has_drop_mate(&self) -> bool
         ensures some { result ≡ true → HasMate self.now.frontier.node.now.position }

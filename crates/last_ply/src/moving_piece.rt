@@ -1,4 +1,4 @@
-//! A piece of the side to move, with the squares to which it may go.
+//! A piece of the side to move with its destinations and the scores of its moves.
 
 ghost use Rattle.std.specs.Prelude.{◌≡◌, true};
 ghost use Rattle.shogi_moves.specs.Destinations.{is_own, AreAllDestinations};
@@ -10,7 +10,8 @@ use shogi_core::{Move, Square, Squares};
 use shogi_eval::{promotion_gain, taken_gain};
 use shogi_moves::{Destinations, OwnPiece};
 
-/// One of the side's pieces, with the squares that it reaches but those of the side's own pieces.
+/// A piece of the side to move with the squares that it reaches, without those of its own side's
+/// pieces.
 #[derive(Clone, Copy)]
 pub struct MovingPiece<'a> {
     pub frontier: &'a FrontierNode<'a>,
@@ -21,7 +22,7 @@ pub struct MovingPiece<'a> {
 }
 
 impl FrontierNode<'_> {
-    /// The piece of the side to move on the square.
+    /// The piece of the side to move on `from`.
     #[inline(always)]
     pub fn moving_piece(&self, from: Square) -> MovingPiece<'_>
         requires { is_own self.now.node.now.position from ≡ true }
@@ -39,7 +40,7 @@ impl FrontierNode<'_> {
 impl MovingPiece<'_> {
     ghost use Rattle.last_ply.specs.FrontierNodes.{is_legal_to};
 
-    /// Its legal destinations.
+    /// The piece's legal destinations.
     pub fn destinations(&self) -> Destinations
         ensures { AreAllDestinations self.now.frontier.now.node.now.position self.now.from result }
     {
@@ -52,7 +53,7 @@ impl MovingPiece<'_> {
         piece.legal_destinations(self.targets)
     }
 
-    /// What its move to the square scores with nothing settled, where it is legal.
+    /// The material after the piece's move to the square, for the mover, if the move is legal.
     pub fn raw_to(&self, to: Square, promote: bool) -> i32
         ensures { RawScoresTo self.now.frontier.now.node.now result self.now.from to promote }
     {
@@ -65,7 +66,7 @@ impl MovingPiece<'_> {
         node.score() + gain as i32
     }
 
-    /// Whether its move to the square is legal.
+    /// Whether the piece's move to the square is legal.
     #[inline(never)]
     pub fn is_end(&self, to: Square, promote: bool) -> bool
         ensures { result ≡ is_legal_to self.now to promote }
@@ -86,7 +87,7 @@ impl MovingPiece<'_> {
         }
     }
 
-    /// Its legal move to the square, with what it scores with nothing settled.
+    /// The piece's legal move to the square, with `raw` as its material score.
     #[inline(always)]
     pub fn scored_to(&self, to: Square, promote: bool, raw: i32) -> ScoredMove<'_>
         requires legal { is_legal_to self.now to promote ≡ true }

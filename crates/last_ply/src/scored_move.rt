@@ -1,4 +1,4 @@
-//! A legal move, with what it scores with nothing settled.
+//! A legal move and its score.
 
 ghost use Rattle.std.specs.Prelude.{◌≡◌, ◌≤ℤ◌, ◌<ℤ◌, true, false};
 ghost use Rattle.shogi_core.specs.Codes.{code_of};
@@ -14,7 +14,8 @@ use shogi_core::Move;
 use shogi_eval::Node;
 use static_exchange::best_exchange;
 
-/// A legal move of a node, with what it scores with nothing settled.
+/// A legal move of a node. `raw` is the material after it in points, for its mover, before any
+/// exchange.
 #[derive(Clone, Copy)]
 pub struct ScoredMove<'a> {
     pub node: &'a Node,
@@ -27,7 +28,7 @@ pub struct ScoredMove<'a> {
 }
 
 impl FrontierNode<'_> {
-    /// The legal move with its score.
+    /// The legal move of the node, ready to be scored.
     pub fn scored(&self, m: &Move) -> ScoredMove<'_>
         requires { is_legal self.now.node.now.position m.now ≡ true }
         ensures node { result.node.now ≡ self.now.node.now }
@@ -43,8 +44,8 @@ impl FrontierNode<'_> {
 }
 
 impl ScoredMove<'_> {
-    /// What the move scores once it is settled, if that is more than the floor, or the floor; with
-    /// nothing settled it scores more than that.
+    /// The score after the opponent's best exchange, which `raw` does not include, if it exceeds
+    /// `floor`; `floor` otherwise. The exchange is counted exactly only up to the difference.
     #[inline(never)]
     fn settled_above(&self, floor: i32) -> i32
         requires resolves_captures { resolves_captures self.now.node.now.eval ≡ true }
@@ -65,7 +66,7 @@ impl ScoredMove<'_> {
         }
     }
 
-    /// What the move scores, if that is more than the floor, or the floor.
+    /// The move's score if it exceeds `floor`; `floor` otherwise.
     #[inline(always)]
     pub fn score_above(&self, floor: i32) -> i32
         ensures least { floor ≤ℤ result }
@@ -83,8 +84,7 @@ impl ScoredMove<'_> {
         }
     }
 
-    /// Whether the move scores this, which is no more than with nothing settled, under an
-    /// evaluation that settles.
+    /// Whether the move scores exactly `score`, at most `raw`, after the opponent's best exchange.
     #[inline(never)]
     fn settles_at(&self, score: i32) -> bool
         requires resolves_captures { resolves_captures self.now.node.now.eval ≡ true }
@@ -100,7 +100,7 @@ impl ScoredMove<'_> {
         best_exchange(self.node.as_position(), m, lost + 1) == lost
     }
 
-    /// Whether the move scores this.
+    /// Whether the move scores exactly `score`.
     #[inline(always)]
     pub fn scores(&self, score: i32) -> bool
         ensures scores { result ≡ true

@@ -1,4 +1,4 @@
-//! What a move is worth with no ply after it.
+//! The worth of a move that ends a line.
 
 ghost use Rattle.std.specs.Prelude.{◌≡◌, ◌≤ℤ◌, true};
 ghost use Rattle.shogi_core.specs.Codes.{code_of};
@@ -12,8 +12,9 @@ use shogi_core::{Move, Position};
 use shogi_eval::{Eval, Node};
 use shogi_moves::{apply, has_legal};
 
-/// What the legal move is worth to its mover under the evaluation, in points, where it ends a line:
-/// `MATE` where it leaves the other side no legal move, and what it leaves in material elsewhere.
+/// The worth to its mover, in points, of a legal move that ends a line (own choice): `MATE` if the
+/// opponent has no legal reply, otherwise the material, under `Eval::Exchange` after the opponent's
+/// best exchange.
 pub fn last_worth(p: &Position, e: Eval, m: Move) -> i32
     requires { is_legal p.now m ≡ true }
     ensures value { result ≡ worth p.now e 0 (code_of m) }
