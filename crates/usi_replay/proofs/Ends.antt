@@ -1,4 +1,4 @@
--- The end of a script, and its lines.
+-- The output of a replay, and the start of reading its lines.
 use Rattle.std.proofs.Common.{◌≡◌, ◌≢◌, ℕ, zero, suc, ◌+◌, ◌<◌, ◌≤◌, List, [], ◌∷◌, ◌++◌, Bool, true, false, cond, Option, Some, None, Ok, Err, length, get_or, drop, refl, sym, ap, ◌∙◌, arith, append_assoc, append-nil}
 use Rattle.std.specs.Prelude.{codes, is_some}
 use Rattle.std.proofs.lemmas.List.{drop_all}
@@ -16,7 +16,7 @@ use Rattle.usi_replay.specs.Sessions.{IsUnused, RunsBy}
 use Rattle.usi_replay.proofs.Transcripts.{transcripts_get, transcripts_len}
 use Rattle.usi_lines.specs.declared.line.TheConstants.{LINE_FEED}
 
--- what is written for what is kept is what is to be written for its `+` line
+-- the bytes written for a transcript are those of its `+` line
 answer_is : (setup : Setup) (h : HostState) (id : Option SessionId) (used refused : Bool) (text made : List ℕ) → HasMade setup h id used refused text made → (cond used id None ≢ None → made ≡ replies_under setup text) → cond (is_some id) made (codes "refused 1\n") ≡ cond refused (codes "refused 1\n") (replies_under setup text)
 answer_is setup h None used refused text made m all = rw m refl
 answer_is setup h (Some id) true refused text made m all = rw m.0 (all (λ e. cc))
@@ -30,7 +30,7 @@ output_from setup [] i lt = absurd (omega arith)
 output_from setup (o ∷ os) zero lt = refl
 output_from setup (o ∷ os) (suc i) lt = (let e : suc i + 1 ≡ suc (i + 1) = omega arith in rw e (output_from setup os i (omega arith)))
 
--- the output so far, and what is left of it
+-- the output so far and that of the `+` lines left are the whole output
 abbrev pub WritesTo : HostState → List Transcript → HostState → List Transcript → ℕ → List ℕ → Type 0
 WritesTo old es now fs i out = (setup : Setup) (slots : ℕ) (os : List Opening) → IsPlayback setup slots old os es → IsPlayback setup slots now os fs × (out ++ output setup (drop i os) ≡ output setup os)
 

@@ -1,4 +1,4 @@
--- Names in use, and what is done under them.
+-- Names in use, and the changes that lines make under them.
 use Rattle.std.proofs.Common.{◌≡◌, ◌≢◌, ℕ, zero, suc, ◌+◌, ◌-◌, ◌^◌, ◌<◌, ◌≤◌, inl, inr, List, [], ◌∷◌, ◌++◌, Bool, true, false, cond, not, Option, Some, None, length, set, get_or, count_by, refl, sym, ap, ◌∙◌, arith, length-set, length-append, ◌==◌}
 use Rattle.std.specs.Prelude.{nat_le, ◌&&◌}
 use Rattle.std.specs.List.{position_or_len}
@@ -14,7 +14,7 @@ use Rattle.usi_replay.specs.Sessions.{IsOpenedAs, IsClosedAs}
 use Rattle.usi_replay.specs.Playback.{Transcript, play, no_transcript, no_opening, open_id, is_transcript_under, Owes, HasAllReplies, HasMade, IsTranscriptOf, floor_after, AreTranscripts, IsPlayback, KeepsPlayback}
 use Rattle.usi_replay.proofs.Transcripts.{transcripts_get, transcripts_len, transcripts_set, transcripts_text, transcripts_open, transcripts_refused, held_set, held_freed, held_last, HasOpenId, has_open_id, made_live, id_none, none_made, made_none, item_is}
 
--- a name's place among what is kept is its place among the `+` lines
+-- a name has the same index among transcripts and `+` lines
 under_same : {setup : Setup} (h : HostState) (o : Opening) (e : Transcript) (name : ℕ) → IsTranscriptOf setup h o e → is_under name o ≡ is_transcript_under name e
 under_same {setup} h o e name i = rw (i.name_is, i.used_is) refl
 
@@ -24,7 +24,7 @@ place_here name e es p = ap (λ (b : Bool). cond (not b) (1 + position_or_len (i
 place_later : (name : ℕ) (e : Transcript) (es : List Transcript) → is_transcript_under name e ≡ false → position_or_len (is_transcript_under name) (e ∷ es) ≡ 1 + position_or_len (is_transcript_under name) es
 place_later name e es p = ap (λ (b : Bool). cond (not b) (1 + position_or_len (is_transcript_under name) es) 0) p
 
--- what stands at the place is under the name
+-- the name is in use for the transcript at its index
 used_by : (b : Bool) (name : ℕ) (e : Transcript) (es : List Transcript) (i : ℕ) → is_transcript_under name e ≡ b → i ≡ position_or_len (is_transcript_under name) (e ∷ es) → ((j : ℕ) → i ≡ suc j → j ≡ position_or_len (is_transcript_under name) es → is_transcript_under name (get_or es j no_transcript) ≡ true) → is_transcript_under name (get_or (e ∷ es) i no_transcript) ≡ true
 used_by true name e es zero f p more = f
 used_by true name e es (suc i) f p more = (let q = place_here name e es f in absurd (omega (arith, q)))
@@ -38,7 +38,7 @@ place_used name (e ∷ es) i p lt = used_by (is_transcript_under name e) name e 
 pub in_use_there : (name : ℕ) (es : List Transcript) (i : ℕ) → i ≡ position_or_len (is_transcript_under name) es → i < length es → (get_or es i no_transcript).in_use ≡ true
 in_use_there name es i p lt = (and_parts (get_or es i no_transcript).in_use ((get_or es i no_transcript).name == name) (place_used name es i p lt)).0
 
--- none is under the name
+-- the name is in use for no `+` line
 pub record NoneUnder (name : ℕ) (by : Opening → Opening) (os : List Opening) : Type 0 where
   pub unused : is_used name os ≡ false
   pub none : change name by os ≡ None
@@ -61,7 +61,7 @@ none_under setup h low name by [] (e ∷ es) t le = absurd t
 none_under setup h low name by (o ∷ os) [] t le = absurd t
 none_under setup h low name by (o ∷ os) (e ∷ es) t le = none_by (is_transcript_under name e) name by o os e es refl (under_same h o e name t.0) le (λ l. none_under setup h (floor_after low e.id) name by os es t.2 l)
 
--- one is
+-- the name is in use for a `+` line
 pub record OneUnder (name : ℕ) (by : Opening → Opening) (os : List Opening) (i : ℕ) : Type 0 where
   pub used : is_used name os ≡ true
   pub changed : change name by os ≡ Some (set os i (by (get_or os i no_opening)))
@@ -138,7 +138,7 @@ opened_played old mid es name (Some at) o room setup slots os p =
       few = omega (arith, len);
     }
 
--- a name is closed_opening
+-- a name closes
 found_open : (setup : Setup) (f : Option SessionView) (made text : List ℕ) → Owes setup f made text → f ≡ None → ⊥
 found_open setup None made text o e = o
 found_open setup (Some s) made text o e = (cc)

@@ -1,4 +1,4 @@
--- A script that is read to its end, and its output written.
+-- A script read to its end, and its output written.
 use Rattle.std.proofs.Common.{◌≡◌, ◌≢◌, ◌<◌, ◌≤◌, ◌+◌, ◌-◌, ◌^◌, ℕ, zero, suc, inl, inr, List, [], ◌∷◌, ◌++◌, Bool, true, Option, None, Some, Result, IsErrAnd, IfErr, Ok, Err, refl, sym, subst, ap, ◌∙◌, length, take, arith, append_assoc, append-nil, length-append}
 use Rattle.std.specs.Prelude.{Vec, flat_map, map}
 use Rattle.std.specs.Io.KnownBytes.{Consumes, Keeps}
@@ -35,7 +35,7 @@ some_taken zero buf lt le = absurd (omega arith)
 some_taken (suc n) [] lt le = absurd (omega arith)
 some_taken (suc n) (byte ∷ rest) lt le = λ e. cc
 
--- the bytes that they gave
+-- the bytes given by the reads
 flat_reads : (chunks : List (List ℕ)) → flat_map given_by (map Read chunks) ≡ flat_map (λ (chunk : List ℕ). chunk) chunks
 flat_reads [] = refl
 flat_reads (chunk ∷ rest) = ap (λ l. chunk ++ l) (flat_reads rest)
@@ -44,12 +44,12 @@ reads_give : (old new : Option (List Call)) (calls : List Call) (bytes : List �
 reads_give old new calls bytes called r =
     subst (λ moved. Gives old new moved) (ap (flat_map given_by) r.calls_are ∙ (flat_reads r.chunks ∙ sym r.bytes_are)) (moves_more given_by old new calls called)
 
--- ---- what is taken
+-- ---- the bytes taken
 
 takes_none : (r : Report) → TakesAll r r []
 takes_none r = record { appended = Appends-nil r.written; taken = Appends-nil (of_calls taken_by r.calls) }
 
--- these bytes, behind no others
+-- the bytes taken after a call that took none
 takes_then : (old mid new : Report) (bytes : List ℕ) → TakesAll old mid [] → TakesAll mid new bytes → TakesAll old new bytes
 takes_then old mid new bytes none more = record {
   appended = Appends-trans old.written mid.written new.written [] bytes none.appended more.appended;
@@ -60,7 +60,7 @@ read_takes : {E : Type 0} (mid now : Report) (buf : List ℕ) (result : Result �
 read_takes mid now buf (Ok n) r = record { appended = Appends-kept mid.written mid.written now.written [] (Appends-nil mid.written) r.written; taken = moves_more taken_by mid.calls now.calls (Read (take n buf) ∷ []) r.called }
 read_takes mid now buf (Err error) r = record { appended = Appends-kept mid.written mid.written now.written [] (Appends-nil mid.written) r.written; taken = moves_more taken_by mid.calls now.calls (FailedRead ∷ []) r.called }
 
--- what a front end takes after a reading, which gives nothing more
+-- the bytes given before a call that gave none
 gives_then : (old mid new : Option (List Call)) (bytes : List ℕ) → Gives old mid bytes → Gives mid new [] → Gives old new bytes
 gives_then old mid new bytes p q =
     subst (λ moved. Gives old new moved) (append-nil bytes) (Appends-trans (of_calls given_by old) (of_calls given_by mid) (of_calls given_by new) bytes [] p q)
@@ -81,7 +81,7 @@ module _ (f : Bool) (o : Option (Result (Unit {0}) StdioFault)) (old mid new : R
 
 -- ---- the reading
 
--- these bytes were read so far, in so many reads, and nothing was written
+-- `reads` reads gave `bytes` in all, and nothing was written
 pub record IsReading (old now : Report) (bytes : List ℕ) (reads : ℕ) : Type 0 where
   pub consumed : Consumes old.unread now.unread bytes
   pub kept : TakesAll old now []
@@ -93,7 +93,7 @@ pub record IsReading (old now : Report) (bytes : List ℕ) (reads : ℕ) : Type 
 pub reading_start : (r : Report) (bytes : List ℕ) → bytes ≡ [] → IsReading r r bytes 0
 reading_start r bytes none = rw none (record { consumed = Consumes-nil r.unread; kept = takes_none r; calls = []; called = called_none r.calls; are_reads = no_reads; count_is = refl })
 
--- one read more, which gave bytes
+-- another read gave bytes
 pub reading_more : {E : Type 0} (old mid now : Report) (bytes all buf : List ℕ) (n reads : ℕ) → IsReading old mid bytes reads → Reads {E = E} mid now (Ok n) buf → 0 < n → all ≡ bytes ++ take n buf → IsReading old now all (reads + 1)
 reading_more old mid now bytes all buf n reads a r some same = rw same (record {
   consumed = Consumes-trans old.unread mid.unread now.unread bytes (take n buf) a.consumed r.consumed.0;
@@ -123,7 +123,7 @@ reads_ended old mid now buf n reads bytes a r none = record {
   ended = record { reads = a.calls; are_reads = a.are_reads; split = refl };
 }
 
--- memory was refused for what a read gave
+-- no memory for the bytes of a read
 pub reads_unkept : {E Z : Type 0} (old mid now : Report) (bytes buf : List ℕ) (n reads : ℕ) → IsReading old mid bytes reads → Reads {E = E} mid now (Ok n) buf → 0 < n → ReadsBy {Z = Z} old.calls now.calls (Err OutOfMemory)
 reads_unkept old mid now bytes buf n reads a r some =
     let more : IsReading old now (bytes ++ take n buf) (reads + 1) = reading_more old mid now bytes (bytes ++ take n buf) buf n reads a r some refl in
@@ -137,7 +137,7 @@ reads_many old now bytes reads a all = record {
   ended = record { reads = a.calls; bytes = bytes; are_reads = a.are_reads; failed = inr (refl, a.count_is ∙ all) };
 }
 
--- a read of nothing leaves the rest as it was
+-- a read of nothing leaves the unread bytes as they were
 none_read : (mid now : Option (List ℕ)) (buf : List ℕ) (n : ℕ) → Consumes mid now (take n buf) → n ≡ 0 → Keeps mid now
 none_read None now buf n c none = tt
 none_read (Some xs) None buf n c none = absurd c
@@ -166,7 +166,7 @@ replays_on slice before after old mid new bytes out given kept is said = record 
   run = is.run;
 }
 
--- by a new host
+-- a replay over a new host, and the state after a failed write
 pub replays_asked : (setup : Setup) (slots entries slice : ℕ) (before after : HostState) (old new : Report) → before ≡ new_host_under setup slots entries → ReplaysOn slice before after old new → ReplaysAsked setup slots entries slice old new
 replays_asked setup slots entries slice before after old new e r = (after, rw e at r)
 
@@ -220,12 +220,12 @@ pub recites_read : {X Z : Type 0} (setup : Setup) (slots : ℕ) (old new : Optio
 recites_read setup slots old new (Ok done) fault same a = absurd same
 recites_read setup slots old new (Err given) fault same a = rw same (record { calls = a.calls; called = a.called; ended = early_read setup slots a.calls fault a.ended })
 
--- it has no output
+-- the script has no output
 pub recites_none : {X Z : Type 0} (setup : Setup) (slots : ℕ) (old new : Option (List Call)) (script : Vec ℕ Z) (bytes : List ℕ) (r : Result X ReplayFault) (fault : ReplayFault) → IsErrAnd r (λ given. given ≡ fault) → ReadsBy {Z = Z} old new (Ok script) → bytes ≡ script.items → IsAnswerFault slots bytes fault → Recites setup slots old new r
 recites_none setup slots old new script bytes (Ok done) fault same a e is = absurd same
 recites_none setup slots old new script bytes (Err given) fault same a e is = rw same (record { calls = a.calls; called = a.called; ended = early_answer setup slots a.calls bytes fault (rw e a.ended) is })
 
--- calls behind the reading
+-- calls after the reading
 all_then : (calls rest : List Call) (bytes : List ℕ) → ReadsAll calls bytes [] → ReadsAll (calls ++ rest) bytes rest
 all_then calls rest bytes r = record {
   reads = r.reads;
@@ -233,7 +233,7 @@ all_then calls rest bytes r = record {
   split = ap (λ (l : List Call). l ++ rest) r.split ∙ append_assoc r.reads (Read [] ∷ []) rest;
 }
 
--- it was written
+-- the output was written
 pub recites_out : {X Z : Type 0} (setup : Setup) (slots : ℕ) (old : Option (List Call)) (mid new : Report) (script : Vec ℕ Z) (bytes out : List ℕ) (done : X) → ReadsBy {Z = Z} old mid.calls (Ok script) → bytes ≡ script.items → IsOutputOf setup slots bytes out → Says mid new out → Recites setup slots old new.calls (Ok done)
 recites_out setup slots old mid new script bytes out done a e is s = record {
   calls = a.calls ++ s.calls;
@@ -276,7 +276,7 @@ recites_part setup slots old mid new script bytes out stdio.WriteFailed a e is (
   );
 }
 
--- by a new host, with nothing given back
+-- a fault over a new host, which is not returned
 pub recites_fault : {X Y : Type 0} (setup : Setup) (slots entries : ℕ) (before : HostState) (old new : Option (List Call)) (fault : ReplayFault) → before ≡ new_host_under setup slots entries → Recites {X = X} before.setup before.slots.max old new (Err fault) → Recites {X = Y} setup slots old new (Err fault)
 recites_fault {X} setup slots entries before old new fault e r =
     let q : Recites {X = X} setup slots old new (Err fault) = rw e at r in

@@ -1,4 +1,4 @@
--- What a round does to one session.
+-- The effect of a round on one session.
 use Rattle.std.proofs.Common.{◌≡◌, ℕ, ◌+◌, ◌*◌, ◌<◌, ◌≤◌, List, [], ◌∷◌, ◌++◌, take, Bool, Result, Ok, Err, Bor, true, false, cond, Option, Some, None, length, get_or, count_by, refl, sym, ap, ◌∙◌, arith}
 use Rattle.std.specs.Prelude.{slice_index_or, is_err, is_some, ◌||◌}
 use Rattle.std.proofs.lemmas.List.{get_or_past, take_all}
@@ -23,7 +23,7 @@ use Rattle.host_core.proofs.Rounds.{is_in, pending_in}
 use Rattle.usi_replay.specs.Playback.{IsSameButForMade, Transcript}
 use Rattle.usi_replay.specs.Sessions.{IsCollected, OwesTheSame, KeepsDue, KeepsAllBut, works_left}
 
--- as many are open after a write to a session
+-- a write to a session keeps the number of open sessions
 pub count-with_session : (s : slots.OpenSessions SessionView) (id : SessionId) (t after : SessionView) → find s id ≡ Some t → count (with_session s id after) ≡ count s
 count-with_session s id t after e =
     let a : IsAt id.generation (slice_index_or s.slots id.slot None) = found_at id.generation (slice_index_or s.slots id.slot None) t e in
@@ -32,7 +32,7 @@ count-with_session s id t after e =
     let u = sum_by-set (λ (o : Option (slots.OpenSession SessionView)). cond (is_some o) 1 0) s.slots id.slot (Some (record { generation = id.generation; session = after })) None within in
     omega (arith, u, one)
 
--- a session changed, and no other
+-- one session changed, and no other
 pub changes_keep : (goes : SessionView → Outcome → SessionView → Type 0) (old new : HostState) (id : SessionId) (s : SessionView) (o : Outcome) → find old.slots id ≡ Some s → Changed goes old id s o new → KeepsAllBut old new id
 changes_keep goes old new id s o e c = record {
   others = λ other differs. ap (λ q. find q other) c.slots_are ∙ find-with_session-other old.slots id other s c.after e differs;
@@ -118,7 +118,7 @@ run_keeps budget (id ∷ ids) (o ∷ os) old new r =
 pub round_keeps : (old new : HostState) (budget worked refused : ℕ) (ids : List SessionId) → IsRound old budget ids worked refused new → KeepsDue old new
 round_keeps old new budget worked refused ids r = run_keeps budget ids r.outcomes old new r.run
 
--- a work that succeeds leaves less to do
+-- a work that succeeds leaves fewer slices to do
 record Falls (s t : SessionView) : Type 0 where
   pub never_more : works_left (Some t) ≤ works_left (Some s)
   pub less : is_pending s ≡ true → works_left (Some t) < works_left (Some s)
@@ -144,7 +144,7 @@ falls_of budget s t Done b f w = absurd w
 falls_of budget s t (Opened id) b f w = absurd w
 falls_of budget s t (Gave bytes) b f w = absurd w
 
--- the same of what an id finds
+-- fewer slices are left for the session found under an id
 record Leaves (f g : Option SessionView) : Type 0 where
   pub never_more : works_left g ≤ works_left f
   pub less : pending_of f ≡ true → works_left g < works_left f
@@ -211,11 +211,11 @@ run_less budget (at ∷ ids) (o ∷ os) old new id one len ok is p r =
     run_less_by (is_same_id at id) budget at ids o os old r.0 new id refl one (no_more o os ok).0 r.1.stepped is p (run_never budget ids os r.0 new id one (no_more o os ok).1 r.2)
     (λ there waits. run_less budget ids os r.0 new id one (omega arith) (no_more o os ok).1 there waits r.2)
 
--- a round that is never refused brings a pending session nearer to its end
+-- a round without refusals brings a pending session nearer to its end
 pub round_falls : (old new : HostState) (budget worked refused : ℕ) (id : SessionId) → 1 ≤ budget → refused ≡ 0 → pending_of (find old.slots id) ≡ true → IsRound old budget (pending_ids old) worked refused new → works_left (find new.slots id) < works_left (find old.slots id)
 round_falls old new budget worked refused id one none p r = run_less budget (pending_ids old) r.outcomes old new id one r.each (sym r.refused_is ∙ none) (pending_in old id p) p r.run
 
--- a queue that was taken to its end
+-- a queue taken to its end
 taken_all : (s t : SessionView) (n : ℕ) (bytes : List ℕ) → n ≡ length s.queued → Taken s n bytes t → (x : List ℕ) → due s x ≡ s.queued ++ due t x
 taken_all s t n bytes e h x = h.owed x ∙ ap (λ xs. xs ++ due t x) (ap (λ k. take k s.queued) e ∙ take_all (length s.queued) s.queued (omega arith))
 

@@ -1,4 +1,4 @@
--- Runs of a host whose works may make so many steps.
+-- Runs of a host in which each work has the same budget.
 use Rattle.std.proofs.Common.{◌≡◌, ℕ, List, [], ◌∷◌, ◌++◌, refl}
 use Rattle.std.proofs.lemmas.List.Elements.{All-nil, All-cons, All-append}
 use Rattle.std.specs.List.{All}
@@ -11,12 +11,12 @@ use Rattle.host_core.specs.Runs.{IsRun}
 use Rattle.host_core.specs.Steps.{HostState, Stepped}
 use Rattle.usi_replay.specs.Sessions.{RunsBy, WorksBy}
 
--- no step
+-- a run of no step
 pub runs_none : (slice : ℕ) (old new : HostState) → new ≡ old → RunsBy slice old new
 unfolding IsRun
 runs_none slice old new e = record { steps = []; run = e; each = All-nil (λ (step : Step). WorksBy slice step.event) }
 
--- one step
+-- a run of one step
 pub runs_step : (slice : ℕ) (old new : HostState) (event : Event) (outcome : Outcome) → IsBelow old.slots → Stepped old event outcome new → WorksBy slice event → RunsBy slice old new
 unfolding IsRun
 runs_step slice old new event outcome below stepped by = record {
@@ -30,7 +30,7 @@ unfolding IsRun
 run_both old mid new [] ys p q = rw p at q
 run_both old mid new (x ∷ xs) ys p q = (p.0, p.1, run_both p.0 mid new xs ys p.2 q)
 
--- one run after another
+-- two runs in sequence
 pub runs_then : (slice : ℕ) (old mid new : HostState) → RunsBy slice old mid → RunsBy slice mid new → RunsBy slice old new
 runs_then slice old mid new p q = record {
   steps = p.steps ++ q.steps;
@@ -43,6 +43,6 @@ works_by slice [] outcomes = All-nil (λ (step : Step). WorksBy slice step.event
 works_by slice (id ∷ ids) [] = All-nil (λ (step : Step). WorksBy slice step.event)
 works_by slice (id ∷ ids) (o ∷ outcomes) = All-cons (λ (step : Step). WorksBy slice step.event) _ _ refl (works_by slice ids outcomes)
 
--- a round
+-- a round as a run
 pub runs_round : (slice : ℕ) (old new : HostState) (ids : List SessionId) (worked refused : ℕ) → IsRound old slice ids worked refused new → RunsBy slice old new
 runs_round slice old new ids worked refused r = record { steps = works slice ids r.outcomes; run = r.run; each = works_by slice ids r.outcomes }

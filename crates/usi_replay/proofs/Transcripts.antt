@@ -1,4 +1,4 @@
--- A script that is being played, step by step.
+-- Steps of a script in play.
 use Rattle.std.proofs.Common.{◌≡◌, ◌≢◌, ℕ, zero, suc, ◌+◌, ◌<◌, ◌≤◌, List, [], ◌∷◌, ◌++◌, Bool, true, false, cond, Option, Some, None, length, set, get_or, count_by, refl, sym, ap, ◌∙◌, arith, append_assoc, append-nil, length-set, ◌==◌}
 use Rattle.std.proofs.lemmas.Bool.{eqb-true}
 use Rattle.std.proofs.lemmas.List.{set-get_or, get_or-set_same}
@@ -16,7 +16,7 @@ use Rattle.usi_replay.specs.Sessions.{OwesTheSame, KeepsDue, KeepsAllBut, IsColl
 use Rattle.usi_replay.specs.Playback.{Transcript, play, no_transcript, no_opening, open_id, Owes, HasMade, IsTranscriptOf, floor_after, IsAbove, AreTranscripts, IsPlayback, KeepsPlayback, HasAllReplies, with_more, IsSent}
 use Rattle.usi_lines.specs.declared.line.TheConstants.{LINE_FEED}
 
--- sessions that went on owe the same
+-- sessions that went on have the same replies due
 owes_due : (setup : Setup) (f g : Option SessionView) (made text : List ℕ) → OwesTheSame f g → Owes setup f made text → Owes setup g made text
 owes_due setup None g made text h o = absurd o
 owes_due setup (Some s) None made text h o = absurd h
@@ -37,7 +37,7 @@ transcripts_due setup old new low [] (e ∷ es) k t = absurd t
 transcripts_due setup old new low (o ∷ os) [] k t = absurd t
 transcripts_due setup old new low (o ∷ os) (e ∷ es) k t = (of_due old new o e k t.0, t.1, transcripts_due setup old new (floor_after low e.id) os es k t.2)
 
--- the others are left as they were
+-- a change to one session leaves the output of the others
 made_other : (setup : Setup) (old new : HostState) (at : SessionId) (id : Option SessionId) (used refused : Bool) (text made : List ℕ) → ((other : SessionId) → other ≢ at → find new.slots other ≡ find old.slots other) → ((other : SessionId) → id ≡ Some other → other ≢ at) → HasMade setup old id used refused text made → HasMade setup new id used refused text made
 made_other setup old new at None used refused text made k apart m = m
 made_other setup old new at (Some other) true refused text made k apart m = (m.0, rw (k other (apart other refl)) m.1)
@@ -89,7 +89,7 @@ member_above setup h low (o ∷ os) (k ∷ es) (suc i) at t lt e =
     let m : floor_after low k.id ≤ at.generation = member_above setup h (floor_after low k.id) os es i at t.2 (omega arith) e in
     omega arith
 
--- one `+` line continues, and no other
+-- one `+` line with a session continues
 pub transcripts_set : {setup : Setup} (old new : HostState) (at : SessionId) (low : ℕ) (os : List Opening) (es : List Transcript) (i : ℕ) (o : Opening) (e : Transcript) → KeepsOnly old new at → AreTranscripts setup old low os es → i < length es → (get_or es i no_transcript).id ≡ Some at → e.id ≡ Some at → IsTranscriptOf setup new o e → AreTranscripts setup new low (set os i o) (set es i e)
 unfolding AreTranscripts
 transcripts_set {setup} old new at low [] [] i o e k t lt was is of = absurd (omega arith)
@@ -105,7 +105,7 @@ transcripts_set {setup} old new at low (p ∷ os) (f ∷ es) (suc i) o e k t lt 
       transcripts_set old new at (floor_after low f.id) os es i o e k t.2 (omega arith) was is of,
     )
 
--- a `+` line that has no session
+-- one `+` line without a session continues
 pub transcripts_text : {setup : Setup} (h : HostState) (low : ℕ) (os : List Opening) (es : List Transcript) (i : ℕ) (o : Opening) (e : Transcript) → AreTranscripts setup h low os es → i < length es → e.id ≡ (get_or es i no_transcript).id → IsTranscriptOf setup h o e → AreTranscripts setup h low (set os i o) (set es i e)
 unfolding AreTranscripts
 transcripts_text {setup} h low [] [] i o e t lt same of = absurd (omega arith)
@@ -136,7 +136,7 @@ transcripts_low setup h low [] (f ∷ es) t = absurd t
 transcripts_low setup h low (p ∷ os) [] t = absurd t
 transcripts_low setup h low (p ∷ os) (f ∷ es) t = (let r = transcripts_low setup h (floor_after low f.id) os es t.2 in let up = floor_up low f.id t.1 in omega (arith, r, up))
 
--- one with_more `+` line, with a session
+-- a `+` line with a session is added
 pub transcripts_open : {setup : Setup} (old new : HostState) (at : SessionId) (low : ℕ) (os : List Opening) (es : List Transcript) (o : Opening) (e : Transcript) → ((other : SessionId) → other ≢ at → find new.slots other ≡ find old.slots other) → at.generation ≡ old.slots.next → new.slots.next ≡ old.slots.next + 1 → e.id ≡ Some at → IsTranscriptOf setup new o e → AreTranscripts setup old low os es → AreTranscripts setup new low (os ++ o ∷ []) (es ++ e ∷ [])
 unfolding AreTranscripts
 transcripts_open {setup} old new at low [] [] o e k g n is of t =
@@ -151,7 +151,7 @@ transcripts_open {setup} old new at low (p ∷ os) (f ∷ es) o e k g n is of t 
       transcripts_open old new at (floor_after low f.id) os es o e k g n is of t.2,
     )
 
--- one with_more, that was refused
+-- a refused `+` line is added
 pub transcripts_refused : {setup : Setup} (h : HostState) (low : ℕ) (os : List Opening) (es : List Transcript) (o : Opening) (e : Transcript) → e.id ≡ None → IsTranscriptOf setup h o e → AreTranscripts setup h low os es → AreTranscripts setup h low (os ++ o ∷ []) (es ++ e ∷ [])
 unfolding AreTranscripts
 transcripts_refused {setup} h low [] [] o e is of t = (of, rw is tt, rw is t)
@@ -159,14 +159,14 @@ transcripts_refused {setup} h low [] (f ∷ es) o e is of t = absurd t
 transcripts_refused {setup} h low (p ∷ os) [] o e is of t = absurd t
 transcripts_refused {setup} h low (p ∷ os) (f ∷ es) o e is of t = (t.0, t.1, transcripts_refused h (floor_after low f.id) os es o e is of t.2)
 
--- as many hold a session, where a `+` line changes that does so before and after or neither
+-- a change that opens and closes no session keeps the number of open sessions
 pub held_set : (os : List Opening) (i : ℕ) (o : Opening) → i < length os → has_session o ≡ has_session (get_or os i no_opening) → count_by has_session (set os i o) ≡ count_by has_session os
 held_set os i o lt e =
     let u = sum_by-set (λ (q : Opening). cond (has_session q) 1 0) os i o no_opening lt in
     let f : ◌≡◌ {A = ℕ} (cond (has_session o) 1 0) (cond (has_session (get_or os i no_opening)) 1 0) = ap (λ (b : Bool). cond b 1 0) e in
     omega (arith, u, f)
 
--- one fewer
+-- a change that closes a session lowers the number of open sessions by one
 pub held_freed : (os : List Opening) (i : ℕ) (o : Opening) → i < length os → has_session o ≡ false → has_session (get_or os i no_opening) ≡ true → count_by has_session (set os i o) + 1 ≡ count_by has_session os
 held_freed os i o lt e f =
     let u = sum_by-set (λ (q : Opening). cond (has_session q) 1 0) os i o no_opening lt in
@@ -178,7 +178,7 @@ pub held_last : (os : List Opening) (o : Opening) → count_by has_session (os +
 held_last [] o = grind (arith, sum_by-cons (λ p. cond (has_session p) 1 0) o [])
 held_last (p ∷ os) o = omega (arith, held_last os o, sum_by-cons (λ q. cond (has_session q) 1 0) p os, sum_by-cons (λ q. cond (has_session q) 1 0) p (os ++ o ∷ []))
 
--- what a transcript with an open session has
+-- a transcript with an open session
 pub record HasOpenId (e : Transcript) (id : SessionId) : Type 0 where
   pub used : e.in_use ≡ true
   pub id_is : e.id ≡ Some id
@@ -206,7 +206,7 @@ made_live {setup} h o e id l i = (let m : HasMade setup h e.id e.in_use o.refuse
 of_live : (setup : Setup) (h : HostState) (o : Opening) (e : Transcript) (id : SessionId) → HasOpenId e id → e.name ≡ o.name → e.in_use ≡ o.in_use → o.refused ≡ false → Owes setup (find h.slots id) e.made o.text → IsTranscriptOf setup h o e
 of_live setup h o e id l n u r w = record { name_is = n; used_is = u; made_is = rw (l.id_is, l.used) (r, w) }
 
--- a session was settled, and what it had queued was kept
+-- a session was worked off, and its queued bytes were kept
 pub record IsTaken (old mid new : HostState) (id : SessionId) (before after : Transcript) : Type 0 where
   pub due : KeepsDue old mid
   pub settled : pending_of (find mid.slots id) ≡ false
@@ -339,7 +339,7 @@ fed_none h es i setup slots os p =
     let same : with_more [] o ≡ o = ap (λ (t : List ℕ). (let r : Opening = record o { text = t } in r)) (append-nil o.text) in
     rw (ap (set os i) same ∙ set-get_or os i no_opening) p
 
--- so much of a text was fed
+-- the text up to `rest` was fed
 pub record IsFedTo (old : HostState) (es : List Transcript) (now : HostState) (fs : List Transcript) (i : ℕ) (text rest : List ℕ) : Type 0 where
   pub done : List ℕ
   pub split : text ≡ done ++ rest
@@ -369,7 +369,7 @@ rounds_played old new es k setup slots os p = record {
   few = (let b : new.slots.next ≡ old.slots.next = k.next_is in let c : old.slots.next ≤ length es = p.few in omega arith);
 }
 
--- an empty list, by a test of its length
+-- a list is empty if its length is zero
 pub empty_list : (xs : List ℕ) (b : Bool) → b ≡ (length xs == 0) → b ≡ true → xs ≡ []
 empty_list [] b e f = refl
 empty_list (x ∷ xs) b e f = (let z : length (x ∷ xs) ≡ 0 = eqb-true (length (x ∷ xs)) 0 (sym e ∙ f) in absurd (omega arith))

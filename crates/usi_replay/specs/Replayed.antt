@@ -1,4 +1,4 @@
--- What `replay` does with its front end (own choice).
+-- Input, output and calls of `replay` at its front end (own choice).
 use Rattle.std.specs.Prelude.{◌≡◌, ◌≢◌, ◌⊎◌, ◌-◌, ◌^◌, ℕ, List, [], ◌∷◌, ◌++◌, Bool, true, length, map, flat_map, Option, None, Some, Result, Ok, Err, MatchResult, Vec}
 use Rattle.std.specs.List.{All}
 use Rattle.std.specs.Io.KnownBytes.{Appends, Consumes, IsAtEnd}
@@ -14,19 +14,19 @@ use Rattle.usi_replay.specs.Playback.{Transcript, IsPlayback}
 use Rattle.usi_replay.specs.Script.{Opening, read_script, output}
 use Rattle.usi_replay.specs.Sessions.{RunsBy}
 
--- the output of a script under a setup
+-- the bytes are the output of a script under a setup
 abbrev pub IsOutputOf : Setup → ℕ → List ℕ → List ℕ → Type 0
 IsOutputOf setup slots bytes out =
     (os : List Opening) × (read_script slots bytes ≡ Ok os) × (out ≡ output setup os)
 
--- a fault of the answering alone
+-- faults that come while a script is played
 abbrev pub IsAnswerFault : ℕ → List ℕ → ReplayFault → Type 0
 IsAnswerFault slots bytes OutOfMemory = Unit {0}
 IsAnswerFault slots bytes ReadFailed = ⊥
 IsAnswerFault slots bytes WriteFailed = ⊥
 IsAnswerFault slots bytes (BadScript line) = read_script slots bytes ≡ Err line
 
--- the output of a script, from this host, whose sessions played it in a run of works of so many steps
+-- a script's output from a host whose sessions played it in slices of `slice` steps
 pub record IsOutputOn (slice : ℕ) (before : HostState) (bytes : List ℕ) (after : HostState)
     (out : List ℕ) : Type 0 where
   pub openings : List Opening
@@ -36,7 +36,7 @@ pub record IsOutputOn (slice : ℕ) (before : HostState) (bytes : List ℕ) (aft
   pub played : IsPlayback before.setup before.slots.max after openings transcripts
   pub run : RunsBy slice before after
 
--- the output of a script from a host, which is given back with it, or why there is none
+-- a script's output with the host after it, or a fault
 abbrev pub IsAnswerOn : {Z : Type 0} → ℕ → HostState → List ℕ
     → Result (HostState × Vec ℕ Z) ReplayFault → Type 0
 IsAnswerOn slice before bytes result =
@@ -45,41 +45,41 @@ IsAnswerOn slice before bytes result =
 
 -- ---- the calls
 
--- reads that each gave bytes, and together these
+-- each call read some bytes, together `bytes`
 pub record AreReads (calls : List Call) (bytes : List ℕ) : Type 0 where
   pub chunks : List (List ℕ)
   pub each : All (λ chunk. chunk ≢ []) chunks
   pub calls_are : calls ≡ map Read chunks
   pub bytes_are : bytes ≡ flat_map (λ chunk. chunk) chunks
 
--- reads that gave these bytes, one that gave none, and then these calls
+-- calls read `bytes`, one read found the end, and `rest` followed
 pub record ReadsAll (calls : List Call) (bytes : List ℕ) (rest : List Call) : Type 0 where
   pub reads : List Call
   pub are_reads : AreReads reads bytes
   pub split : calls ≡ reads ++ Read [] ∷ rest
 
--- a read failed, or the greatest number of them was made
+-- a read failed, or the greatest number of reads was made
 pub record FailsToRead (calls : List Call) : Type 0 where
   pub reads : List Call
   pub bytes : List ℕ
   pub are_reads : AreReads reads bytes
   pub failed : (calls ≡ reads ++ FailedRead ∷ []) ⊎ ((calls ≡ reads) × (length reads ≡ 2 ^ 64 - 1))
 
--- the calls of a reading that ended early; it has no other fault
+-- the calls of a reading that ended early with the fault
 abbrev pub EndsReading : List Call → ReplayFault → Type 0
 EndsReading calls OutOfMemory = (bytes : List ℕ) × AreReads calls bytes
 EndsReading calls ReadFailed = FailsToRead calls
 EndsReading calls WriteFailed = ⊥
 EndsReading calls (BadScript line) = ⊥
 
--- where calls are reported, those since are a reading that ended so
+-- if calls are reported, the new ones are a reading with this result
 pub record ReadsBy {Z : Type 0} (old new : Option (List Call))
     (result : Result (Vec ℕ Z) ReplayFault) : Type 0 where
   pub calls : List Call
   pub called : Makes old new calls
   pub ended : MatchResult result (λ bytes. ReadsAll calls bytes.items []) (EndsReading calls)
 
--- all is read, and then the output of the script is written but for what is left
+-- all input was read, and then the script's output was written except `left`
 pub record SaysOutput (setup : Setup) (slots : ℕ) (calls : List Call) (is_flushed : Bool)
     (outcome : Option (Result (Unit {0}) StdioFault)) (left : List ℕ) : Type 0 where
   pub bytes : List ℕ
@@ -91,7 +91,7 @@ pub record SaysOutput (setup : Setup) (slots : ℕ) (calls : List Call) (is_flus
   pub split : out ≡ done ++ left
   pub spoken : Speaks said done is_flushed outcome
 
--- the calls of a replay that ended early: a fault of the front end is that of the last call
+-- the calls of a replay that ended early; a fault of the front end is that of the last call
 abbrev pub EndsEarly : Setup → ℕ → List Call → ReplayFault → Type 0
 EndsEarly setup slots calls OutOfMemory =
     (bytes : List ℕ) × (AreReads calls bytes ⊎ ReadsAll calls bytes [])
@@ -102,7 +102,7 @@ EndsEarly setup slots calls WriteFailed =
 EndsEarly setup slots calls (BadScript line) =
     (bytes : List ℕ) × ReadsAll calls bytes [] × (read_script slots bytes ≡ Err line)
 
--- where calls are reported, those since are a replay with this result: all is read before anything is written, and at its end all is written and flushed
+-- if calls are reported, the new ones are a replay with this result: all is read before anything is written, and success means that all is written and flushed
 pub record Recites {X : Type 0} (setup : Setup) (slots : ℕ) (old new : Option (List Call))
     (result : Result X ReplayFault) : Type 0 where
   pub calls : List Call
@@ -111,24 +111,24 @@ pub record Recites {X : Type 0} (setup : Setup) (slots : ℕ) (old new : Option 
       MatchResult result (λ done. SaysOutput setup slots calls true None [])
       (EndsEarly setup slots calls)
 
--- ---- what a front end reports, of its bytes and of what its calls gave and took
+-- ---- a front end's reports of its bytes and of the bytes that its calls gave and took
 
--- it gave these bytes, and they are all that it had
+-- the front end gave these bytes, and they are all it had
 pub record GivesAll (old new : Report) (bytes : List ℕ) : Type 0 where
   pub consumed : Consumes old.unread new.unread bytes
   pub ended : IsAtEnd new.unread
   pub given : Gives old.calls new.calls bytes
 
--- the same of the bytes in a buffer
+-- the front end gave the bytes of the buffer, and they are all it had
 abbrev pub GivesAllIn : {Z : Type 0} → Report → Report → Vec ℕ Z → Type 0
 GivesAllIn old new bytes = GivesAll old new bytes.items
 
--- it took these bytes, and no others
+-- the front end took exactly these bytes
 pub record TakesAll (old new : Report) (bytes : List ℕ) : Type 0 where
   pub appended : Appends old.written new.written bytes
   pub taken : Takes old.calls new.calls bytes
 
--- all was read, and is a script that comes to this
+-- the input was read to its end, and is a script with this result
 pub record IsScript (slots : ℕ) (old new : Report) (comes : Result (List Opening) ℕ) : Type 0 where
   pub bytes : List ℕ
   pub read : GivesAll old new bytes
@@ -140,14 +140,14 @@ pub record Replays (setup : Setup) (slots : ℕ) (old new : Report) : Type 0 whe
   pub script : IsScript slots old new (Ok openings)
   pub written : TakesAll old new (output setup openings)
 
--- and this host played it in works of so many steps
+-- the script's output was written, and the host played it in slices of `slice` steps
 pub record ReplaysOn (slice : ℕ) (before after : HostState) (old new : Report) : Type 0 where
   pub replayed : Replays before.setup before.slots.max old new
   pub transcripts : List Transcript
   pub played : IsPlayback before.setup before.slots.max after replayed.openings transcripts
   pub run : RunsBy slice before after
 
--- a new host of these numbers played it
+-- a new host of these sizes played the script
 abbrev pub ReplaysAsked : Setup → (slots entries slice : ℕ) → Report → Report → Type 0
 ReplaysAsked setup slots entries slice old new =
     (after : HostState) × ReplaysOn slice (new_host_under setup slots entries) after old new
@@ -166,7 +166,7 @@ pub record IsBadAt (slots : ℕ) (old new : Report) (line : ℕ) : Type 0 where
   pub script : IsScript slots old new (Err line)
   pub written : TakesAll old new []
 
--- what a fault leaves: only a write that failed leaves anything written
+-- the state after a fault: only a failed write leaves bytes written
 abbrev pub Leaves : Setup → ℕ → Report → Report → ReplayFault → Type 0
 Leaves setup slots old new OutOfMemory = TakesAll old new []
 Leaves setup slots old new ReadFailed = TakesAll old new []

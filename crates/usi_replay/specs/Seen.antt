@@ -1,4 +1,4 @@
--- Lines of a script and its replay in the code, as those of the definitions.
+-- Lines of a script and replays of the code, as those of the definitions.
 use Rattle.usi_replay.specs.declared.script_line.ScriptLine as code
 use Rattle.usi_replay.specs.declared.script_line.ScriptLine.TheVariants as code_line
 use Rattle.usi_replay.specs.declared.playback.Playback.{Playback}

@@ -1,4 +1,4 @@
--- What the steps of a replay do to the sessions of its host.
+-- Changes to the sessions of a host during a replay.
 use Rattle.std.specs.Prelude.{◌≡◌, ◌≢◌, ◌<◌, ℕ, List, [], ◌++◌, Option, Some, None, true}
 use Rattle.std.specs.List.{All}
 use Rattle.session_slots.specs.declared.id.SessionId.{SessionId}
@@ -13,13 +13,13 @@ use Rattle.host_core.specs.Runs.{IsRun}
 use Rattle.host_core.specs.declared.event.HostFault.TheVariants.{Full}
 use Rattle.usi_replay.specs.Playback.{Transcript}
 
--- there is no session in either, or one in both that owes the same
+-- no session in either, or a session in both with the same replies due
 abbrev pub OwesTheSame : Option SessionView → Option SessionView → Type 0
 OwesTheSame None None = Unit {0}
 OwesTheSame (Some s) (Some t) = (x : List ℕ) → due t x ≡ due s x
 OwesTheSame _ _ = ⊥
 
--- sessions may have gone on, and each owes what it owed
+-- sessions may have gone on, with the same replies due
 pub record KeepsDue (old new : HostState) : Type 0 where
   pub owed : (id : SessionId) → OwesTheSame (find old.slots id) (find new.slots id)
   pub count_is : count new.slots ≡ count old.slots
@@ -27,18 +27,18 @@ pub record KeepsDue (old new : HostState) : Type 0 where
   pub next_is : new.slots.next ≡ old.slots.next
   pub setup_is : new.setup ≡ old.setup
 
--- the works that a session may still need
+-- the slices that a session may still need
 abbrev pub works_left : Option SessionView → ℕ
 works_left None = 0
 works_left (Some t) = slices_of t
 
--- each session that was pending may still need fewer works
+-- each session that was pending may need fewer slices
 abbrev pub NeedFewerWorks : HostState → HostState → Type 0
 NeedFewerWorks old new =
     (id : SessionId) → pending_of (find old.slots id) ≡ true
     → works_left (find new.slots id) < works_left (find old.slots id)
 
--- all other sessions are what they were
+-- all sessions but one are unchanged
 pub record KeepsAllBut (old new : HostState) (id : SessionId) : Type 0 where
   pub others : (other : SessionId) → other ≢ id → find new.slots other ≡ find old.slots other
   pub count_is : count new.slots ≡ count old.slots
@@ -46,19 +46,19 @@ pub record KeepsAllBut (old new : HostState) (id : SessionId) : Type 0 where
   pub next_is : new.slots.next ≡ old.slots.next
   pub setup_is : new.setup ≡ old.setup
 
--- what was queued was added to what was made, and is queued no more
+-- queued bytes moved to the output made
 abbrev pub IsCollected : Option SessionView → Option SessionView → List ℕ → List ℕ → Type 0
 IsCollected None now made more = (now ≡ None) × (more ≡ made)
 IsCollected (Some s) None made more = ⊥
 IsCollected (Some s) (Some t) made more =
     (more ≡ made ++ s.queued) × ((x : List ℕ) → due s x ≡ s.queued ++ due t x)
 
--- what was queued for the id was added to what its transcript had made
+-- the queued bytes of the session moved to its transcript
 abbrev pub HandsOver : HostState → HostState → SessionId → Transcript → Transcript → Type 0
 HandsOver old new id before after =
     IsCollected (find old.slots id) (find new.slots id) before.made after.made
 
--- the session owes what it owed for these bytes and for what follows; a session that is over owes nothing for them
+-- feeding the bytes leaves due the replies to them and to any that follow
 abbrev pub IsFed : Option SessionView → Option SessionView → List ℕ → Type 0
 IsFed None now chunk = Unit {0}
 IsFed (Some s) None chunk = ⊥
@@ -78,12 +78,12 @@ IsClosedAs old None new = new ≡ old
 abbrev pub IsUnused : HostState → Type 0
 IsUnused host = host.slots ≡ record { max = host.slots.max; next = 0; slots = [] }
 
--- a work, where the event is one, may make so many steps
+-- the event, if it is a work, has a budget of `slice` steps
 abbrev pub WorksBy : ℕ → Event → Type 0
 WorksBy slice (Work id budget) = budget ≡ slice
 WorksBy slice _ = Unit {0}
 
--- a run of the host, of which each work may make so many steps
+-- a run of the host in which each work has a budget of `slice` steps
 pub record RunsBy (slice : ℕ) (old new : HostState) : Type 0 where
   pub steps : List Step
   pub run : IsRun old steps new

@@ -1,17 +1,18 @@
-//! Why a script was not replayed.
+//! Faults of a replay.
 
 use thiserror::Error;
 
-/// Why a script was not replayed.
+/// The fault that ended a replay.
 #[derive(Debug, PartialEq, Eq, Drop, Error)]
 pub enum ReplayFault {
     /// Out of memory, before anything was written.
     #[error("out of memory")]
     OutOfMemory,
-    /// A read failed, or there were 18,446,744,073,709,551,615 of them. Nothing was written.
+    /// A read failed, or 18,446,744,073,709,551,615 reads did not reach the end. Nothing was
+    /// written.
     #[error("read failed")]
     ReadFailed,
-    /// A write or a flush failed, or a write took nothing. A prefix of the output was written.
+    /// A write or flush failed, or a write took nothing. A prefix of the output was written.
     #[error("write failed")]
     WriteFailed,
     /// The first bad line of the script, counted from 1. Nothing was written.

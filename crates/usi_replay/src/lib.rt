@@ -1,4 +1,4 @@
-//! Scripts of many sessions over one host.
+//! Replay of scripts with many sessions over one host.
 #![tactic(auto)]
 
 mod fault;

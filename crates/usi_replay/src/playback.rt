@@ -1,4 +1,4 @@
-//! A script that is being replayed over a host.
+//! The replay of a script, line by line, over a host.
 
 ghost use Rattle.std.specs.Prelude.{◌≡◌, ◌≤◌, ◌<◌, ◌++◌, IfOk, OnOk, length, true};
 ghost use Rattle.usi_lines.specs.Seen.{line_of};
@@ -16,7 +16,7 @@ use std::hash::BuildHasher;
 use usi_lines::Line;
 use usi_session::CHUNK_MAX;
 
-/// Adds what is written for a `+` line.
+/// Adds the section of a `+` line to the output.
 fn add_section<A: Allocator>(
     out: &mut Vec<u8, A>,
     transcript: &Transcript<A>,
@@ -28,8 +28,8 @@ fn add_section<A: Allocator>(
     out.extend_from_slice(transcript.answer())
 }
 
-/// A script that is being replayed: the host, the most steps of a session in a round, and one
-/// transcript for each `+` line so far, in their order.
+/// A replay: the host, the most search steps of a session in a round, and one transcript for each
+/// `+` line so far, in script order.
 #[derive(Drop)]
 pub struct Playback<S: BuildHasher, A: Allocator + Copy> {
     pub alloc: A,
@@ -39,7 +39,7 @@ pub struct Playback<S: BuildHasher, A: Allocator + Copy> {
 }
 
 impl<S: BuildHasher, A: Allocator + Copy> Playback<S, A> {
-    /// The place of the `+` line for which the name is in use, or the number of all of them.
+    /// The index of the transcript with the name in use, or the number of transcripts.
     fn place_of(&self, name: u8) -> usize
         ensures value { result ≡ place_of name self.now.transcripts.items }
         ensures within { result ≤ length self.now.transcripts.items }
@@ -52,7 +52,8 @@ impl<S: BuildHasher, A: Allocator + Copy> Playback<S, A> {
         self.transcripts.len()
     }
 
-    /// Rounds until the session of a `+` line has nothing pending; all that it made is kept.
+    /// Makes rounds until the session of the `+` line has nothing pending, and moves its output
+    /// into the transcript.
     fn collect(&mut self, place: usize) -> Result<(), AllocError>
         requires within { place < length self.old.transcripts.items }
         requires least { 1 ≤ self.old.slice }
@@ -71,8 +72,8 @@ impl<S: BuildHasher, A: Allocator + Copy> Playback<S, A> {
         Ok(())
     }
 
-    /// Feeds a chunk of at most 4,096 bytes to a `+` line, once nothing of its session is pending. It
-    /// is dropped where there is no session, or where the session is over.
+    /// Feeds a chunk of at most 4,096 bytes to the session of the `+` line once it has nothing
+    /// pending. Drops the chunk if the line was refused a session or the session is over.
     fn feed(&mut self, place: usize, chunk: &[u8]) -> Result<(), AllocError>
         requires within { place < length self.old.transcripts.items }
         requires least { 1 ≤ self.old.slice }
@@ -91,7 +92,7 @@ impl<S: BuildHasher, A: Allocator + Copy> Playback<S, A> {
         Ok(())
     }
 
-    /// Feeds a text and an LF to a `+` line, and makes one round.
+    /// Feeds a text and an LF to the session of the `+` line, and makes one round.
     fn send(&mut self, place: usize, text: &[u8]) -> Result<(), AllocError>
         requires within { place < length self.old.transcripts.items }
         requires least { 1 ≤ self.old.slice }
@@ -112,7 +113,7 @@ impl<S: BuildHasher, A: Allocator + Copy> Playback<S, A> {
         Ok(())
     }
 
-    /// Frees the name of a `+` line, once nothing of its session is pending.
+    /// Closes the session of the `+` line once it has nothing pending, and frees the name.
     fn close(&mut self, place: usize) -> Result<(), AllocError>
         requires within { place < length self.old.transcripts.items }
         requires least { 1 ≤ self.old.slice }
@@ -127,7 +128,8 @@ impl<S: BuildHasher, A: Allocator + Copy> Playback<S, A> {
         Ok(())
     }
 
-    /// Opens a session under a name that is free, or notes that it was refused, and makes one round.
+    /// Opens a session under a free name, or records that it was refused, and makes one round. Room
+    /// for the transcript is taken first, so that no session is open without one.
     fn open(&mut self, name: u8) -> Result<(), AllocError>
         requires { 1 ≤ self.old.slice }
         ensures opened { OnOk result (IsOpenedUnder (play_of self.old) (play_of self.new) name) }
@@ -142,7 +144,7 @@ impl<S: BuildHasher, A: Allocator + Copy> Playback<S, A> {
         Ok(())
     }
 
-    /// Does `+` and a name; no where the name is in use.
+    /// Plays `+A`; false if the name is in use.
     fn open_line(&mut self, name: u8) -> Result<bool, AllocError>
         requires { 1 ≤ self.old.slice }
         ensures done { Plays result (play_of self.old) (Open name) (play_of self.new) }
@@ -156,7 +158,7 @@ impl<S: BuildHasher, A: Allocator + Copy> Playback<S, A> {
         Ok(true)
     }
 
-    /// Does `-` and a name; no where the name is not in use.
+    /// Plays `-A`; false if the name is not in use.
     fn close_line(&mut self, name: u8) -> Result<bool, AllocError>
         requires { 1 ≤ self.old.slice }
         ensures done { Plays result (play_of self.old) (Close name) (play_of self.new) }
@@ -171,7 +173,7 @@ impl<S: BuildHasher, A: Allocator + Copy> Playback<S, A> {
         Ok(true)
     }
 
-    /// Does a name and a text; no where the name is not in use.
+    /// Plays `A text`; false if the name is not in use.
     fn send_line(&mut self, name: u8, text: &[u8]) -> Result<bool, AllocError>
         requires { 1 ≤ self.old.slice }
         ensures done { Plays result (play_of self.old) (Send name text.now) (play_of self.new) }
@@ -186,7 +188,7 @@ impl<S: BuildHasher, A: Allocator + Copy> Playback<S, A> {
         Ok(true)
     }
 
-    /// Does what a line of the script means; no where the line is bad.
+    /// Plays a line of the script; false if it is bad.
     pub fn play_line(&mut self, line: Line<'_>) -> Result<bool, AllocError>
         requires { 1 ≤ self.old.slice }
         ensures done { PlaysLine result (play_of self.old) (line_of line.entry) (play_of self.new) }
@@ -202,7 +204,7 @@ impl<S: BuildHasher, A: Allocator + Copy> Playback<S, A> {
         }
     }
 
-    /// Rounds until nothing is pending; the output of the whole script.
+    /// Makes rounds until nothing is pending, and returns the output of the whole script.
     pub fn finish(&mut self) -> Result<Vec<u8, A>, AllocError>
         requires { 1 ≤ self.old.slice }
         ensures whole { IfOk result (λ out. IsWhole (play_of self.old) out.items) }

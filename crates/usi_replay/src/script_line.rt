@@ -1,4 +1,4 @@
-//! What a line of a script means.
+//! Forms of script lines.
 
 ghost use Rattle.std.specs.Prelude.{◌≡◌};
 ghost use Rattle.usi_lines.specs.Seen.{line_of};
@@ -7,18 +7,18 @@ ghost use Rattle.usi_replay.specs.Seen.{script_line_of};
 
 use usi_lines::Line;
 
-/// What a line of a script means. A name is one letter from `A` to `Z` (own choice).
+/// The meaning of a script line. A name is one letter from `A` to `Z` (own choice).
 #[derive(Clone, Copy)]
 pub enum ScriptLine<'a> {
-    /// No bytes: the line is skipped.
+    /// An empty line, which is skipped.
     Empty,
-    /// `+A`: a session is opened under the name.
+    /// `+A`: opens a session under the name.
     Open(u8),
-    /// `-A`: the session of the name is closed, and the name is free.
+    /// `-A`: closes the session of the name and frees the name.
     Close(u8),
-    /// `A text`: the session of the name is sent the text, which may be empty, as a line.
+    /// `A text`: sends the text, which may be empty, to the session as a line.
     Send(u8, &'a [u8]),
-    /// None of these forms, or too long.
+    /// A line of another form, or too long.
     Bad,
 }
 
@@ -29,7 +29,7 @@ fn is_name(byte: u8) -> bool
     b'A' <= byte && byte <= b'Z'
 }
 
-/// What the bytes of a line mean by their form.
+/// The meaning of a line's bytes.
 fn text_meaning(text: &[u8]) -> ScriptLine<'_>
     ensures { script_line_of result ≡ meaning_of text.now }
 {
@@ -51,7 +51,7 @@ fn text_meaning(text: &[u8]) -> ScriptLine<'_>
     }
 }
 
-/// What a line means by its form alone; whether its name is in use is not looked at.
+/// The meaning of a line by its form, whether its name is in use or not.
 pub fn meaning(line: Line<'_>) -> ScriptLine<'_>
     ensures { script_line_of result ≡ meaning (line_of line.entry) }
 {

@@ -1,4 +1,4 @@
-//! The sessions of a host: worked off, fed, opened and closed.
+//! Rounds, output, input, opening and closing of the sessions of a host.
 
 ghost use Rattle.std.specs.Prelude.{◌≡◌, ◌≤◌, ℕ, false, IfOk, OnOk};
 ghost use Rattle.session_slots.specs.Slots.{find};
@@ -12,7 +12,7 @@ use session_slots::SessionId;
 use std::alloc::{AllocError, Allocator};
 use std::hash::BuildHasher;
 
-/// One round: every pending session continues by at most so many steps.
+/// One round: every pending session continues by at most `slice` search steps.
 pub fn work_round<S: BuildHasher, A: Allocator + Copy>(
     host: &mut Host<S, A>,
     slice: u64,
@@ -28,7 +28,7 @@ pub fn work_round<S: BuildHasher, A: Allocator + Copy>(
     Ok(())
 }
 
-/// Rounds until the session has nothing pending.
+/// Makes rounds until the session has nothing pending.
 pub fn settle<S: BuildHasher, A: Allocator + Copy>(
     host: &mut Host<S, A>,
     id: SessionId,
@@ -45,7 +45,8 @@ pub fn settle<S: BuildHasher, A: Allocator + Copy>(
     Ok(())
 }
 
-/// Moves what the session has queued into its transcript.
+/// Moves the session's queued bytes into its transcript. `pass` never fails: the session is open
+/// and has these bytes queued.
 pub fn take_output<S: BuildHasher, A: Allocator + Copy>(
     host: &mut Host<S, A>,
     id: SessionId,
@@ -68,7 +69,7 @@ pub fn take_output<S: BuildHasher, A: Allocator + Copy>(
     Ok(())
 }
 
-/// Feeds a chunk of at most 4,096 bytes, or drops it where the session is over.
+/// Feeds a chunk of at most 4,096 bytes, or drops it if the session is over.
 pub fn feed<S: BuildHasher, A: Allocator + Copy>(
     host: &mut Host<S, A>,
     id: SessionId,
@@ -87,7 +88,7 @@ pub fn feed<S: BuildHasher, A: Allocator + Copy>(
     Ok(())
 }
 
-/// Opens a session; `None` where as many are open as may be.
+/// Opens a session; `None` if the host has no room for one.
 pub fn open<S: BuildHasher, A: Allocator + Copy>(
     host: &mut Host<S, A>,
 ) -> Result<Option<SessionId>, AllocError>
@@ -101,7 +102,7 @@ pub fn open<S: BuildHasher, A: Allocator + Copy>(
     }
 }
 
-/// Closes a session, if there is one.
+/// Closes the session, if there is one.
 pub fn close<S: BuildHasher, A: Allocator + Copy>(host: &mut Host<S, A>, id: Option<SessionId>)
     ensures closed { IsClosedAs host.old id host.new }
     ensures run { (slice : ℕ) → RunsBy slice host.old host.new }

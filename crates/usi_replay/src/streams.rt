@@ -1,4 +1,4 @@
-//! A script over a front end.
+//! Replay of a script that comes from a front end.
 
 ghost use Rattle.std.specs.Prelude.{◌≤◌, [], OnOk, IfOk, IfErr};
 ghost use Rattle.usi_texts.specs.Setup.{default_setup};
@@ -17,7 +17,7 @@ use usi_session::CHUNK_MAX;
 use usi_stdio::{FrontEnd, write_out};
 use usi_texts::Setup;
 
-/// Reads all that comes.
+/// Reads all bytes to the end of the input.
 fn read_all<A: Allocator, T: FrontEnd>(
     alloc: A,
     front_end: &mut T,
@@ -43,7 +43,7 @@ fn read_all<A: Allocator, T: FrontEnd>(
     Err(ReplayFault::ReadFailed)
 }
 
-/// The output of a script, which a host plays, with the host as it is left.
+/// The output of a script that the host plays, and the host after it.
 fn output_of<S: BuildHasher + Drop, A: Allocator + Copy>(
     alloc: A,
     host: Host<S, A>,
@@ -78,7 +78,7 @@ fn output_of<S: BuildHasher + Drop, A: Allocator + Copy>(
     Ok((playback.host, out))
 }
 
-/// `replay_with_setup` under the default setup.
+/// `replay_with_setup` with the default setup.
 pub fn replay<A: Allocator + Copy, T: FrontEnd>(
     alloc: A,
     front_end: &mut T,
@@ -103,27 +103,27 @@ pub fn replay<A: Allocator + Copy, T: FrontEnd>(
     replay_with_setup(alloc, Setup::new(), front_end, slots, entries, slice)
 }
 
-/// Replays a script of many sessions, which begin under a setup, over one host of at most `slots`
-/// sessions, from 1 to 1,024, that share a table of `entries` entries, from 1 to 1,000,000. In each round every pending session continues
-/// by at most `slice` steps of search, at least 1. The lines of a script are those of a USI stream; an
-/// unfinished last line is ignored (own choice, as the whole form of scripts):
+/// Replays a script of many sessions under a setup, over one host of at most `slots` sessions, from
+/// 1 to 1,024, with a common table of `entries` entries, from 1 to 1,000,000. In each round every
+/// pending session continues by at most `slice` search steps, at least 1. Lines are those of a USI
+/// stream; an unfinished last line is ignored (own choice, as the whole form of scripts):
 ///
 /// - an empty line is skipped;
-/// - `+A`, with a letter from `A` to `Z`, opens a session under the name `A`, or refuses it where as
-///   many are open as may be;
-/// - `A text` sends a line to the session `A`, once it has answered what it was sent before;
-/// - `-A` closes the session `A`, once it has answered all, and frees the name.
+/// - `+A`, with a letter from `A` to `Z`, opens a session under the name `A`, or refuses it if all
+///   slots are taken;
+/// - `A text` sends a line to the session `A` once it has answered all earlier ones;
+/// - `-A` closes the session `A` once it has answered all, and frees the name.
 ///
-/// Any other line, a name that is opened while it is in use, or used while it is not, is bad.
+/// Any other line is bad, as is one that opens a name in use or uses one that is not.
 ///
-/// The output has, for each `+` line in the order of the script, the line `== A` and all replies to the
-/// lines that this session was sent, or the line `refused 1`. Neither `entries` nor `slice` changes it.
-/// The whole script is read first, nothing is written before all of it was answered, and no memory is
-/// taken once writing began. It flushes at the end.
+/// For each `+` line in script order, the output has the line `== A` and all replies to the lines
+/// sent to this session, or the line `refused 1`. Neither `entries` nor `slice` changes the output.
+/// The whole script is read and answered before anything is written; writing takes no memory and
+/// ends with a flush.
 ///
-/// `OutOfMemory` comes where an allocation failed, `ReadFailed` where a read failed; `BadScript` names
-/// the first bad line, counted from 1; after each of them nothing was written. `WriteFailed` comes where
-/// a write or the flush failed or a write took nothing; then a prefix of the output was written.
+/// `OutOfMemory`, `ReadFailed` and `BadScript`, with the number of the first bad line from 1, leave
+/// nothing written. `WriteFailed`, also for a failed flush or a write that took nothing, leaves a
+/// prefix of the output written.
 pub fn replay_with_setup<A: Allocator + Copy, T: FrontEnd>(
     alloc: A,
     setup: Setup,
@@ -156,9 +156,9 @@ pub fn replay_with_setup<A: Allocator + Copy, T: FrontEnd>(
     }
 }
 
-/// Replays a script as `replay_with_setup` does, over a host that opened no session yet, whatever
-/// its table has: under its setup, by its sessions alone. Gives the host back as the script left
-/// it: sessions whose names are in use are open. After a fault the host is gone.
+/// Replays a script as `replay_with_setup` does, over a host that has opened no session yet, with
+/// any table, and under its setup. Returns the host with the sessions open whose names are in use.
+/// After a fault the host is gone.
 pub fn replay_on<S: BuildHasher + Drop, A: Allocator + Copy, T: FrontEnd>(
     alloc: A,
     host: Host<S, A>,

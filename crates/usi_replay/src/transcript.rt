@@ -1,4 +1,4 @@
-//! What is kept for a `+` line.
+//! The transcript of a `+` line.
 
 ghost use Rattle.std.specs.Prelude.{◌≡◌, ◌++◌, [], true, false, cond, codes, is_some, OnOk};
 ghost use Rattle.usi_replay.specs.Playback.{Transcript, open_id, is_transcript_under};
@@ -7,8 +7,8 @@ use session_slots::SessionId;
 use std::alloc::{AllocError, Allocator};
 use std::marker::Model;
 
-/// What is kept for a `+` line: its name, whether that is in use, the id of its session if it got one,
-/// and the bytes that the session made so far.
+/// The transcript of a `+` line: its name, whether the name is in use, the id of its session unless
+/// it was refused, and the session's output so far.
 #[derive(Drop)]
 pub struct Transcript<A: Allocator> {
     name: u8,
@@ -31,8 +31,8 @@ impl<A: Allocator> Model for Transcript<A> {
 }
 
 impl<A: Allocator> Transcript<A> {
-    /// Of a name that comes into use, with the id of its session, or none where it was refused. It
-    /// takes no memory.
+    /// The transcript of a name that comes into use, with the id of its session, or `None` if it
+    /// was refused. Takes no memory.
     pub fn new(alloc: A, name: u8, id: Option<SessionId>) -> Transcript<A>
         ensures { result ≡ record { name = name; in_use = true; id = id; made = [] } }
     {
@@ -51,21 +51,21 @@ impl<A: Allocator> Transcript<A> {
         self.name
     }
 
-    /// Whether the name is in use, and is this one.
+    /// Whether the name is in use and equal to `name`.
     pub fn is_under(&self, name: u8) -> bool
         ensures { result ≡ is_transcript_under name self.now }
     {
         self.in_use && self.name == name
     }
 
-    /// The id, while its session is open.
+    /// The session's id while the name is in use; `None` if it was refused.
     pub fn open_id(&self) -> Option<SessionId>
         ensures { result ≡ open_id self.now }
     {
         if self.in_use { self.id } else { None }
     }
 
-    /// What is written for it: the bytes made, or that it was refused.
+    /// The bytes written under the `+` line: the session's output, or `refused 1`.
     pub fn answer(&self) -> &[u8]
         ensures { result.now ≡ cond (is_some self.now.id) self.now.made (codes "refused 1\n") }
     {
@@ -76,14 +76,14 @@ impl<A: Allocator> Transcript<A> {
         }
     }
 
-    /// Keeps more bytes that the session made.
+    /// Adds bytes to the session's output.
     pub fn append(&mut self, bytes: &[u8]) -> Result<(), AllocError>
         ensures { OnOk result (self.new ≡ record self.old { made = self.old.made ++ bytes.now }) }
     {
         self.made.extend_from_slice(bytes)
     }
 
-    /// The name is free again.
+    /// Frees the name.
     pub fn close(&mut self)
         ensures { self.new ≡ record self.old { in_use = false } }
     {

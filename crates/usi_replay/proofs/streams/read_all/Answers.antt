@@ -33,7 +33,7 @@ pub returns-then-is_err-clause-calls : goal.returns-then-is_err-clause-calls
 returns-then-is_err-clause-calls g c =
     reads_unkept _ (g.T.FrontEnd.report c.chunks.front_end) _ _ _ _ _ c.chunks.invariant c.in-Ok.ensures (first_of (search rules, omega arith, grind (arith, common_steps)))
 
--- one chunk more
+-- another chunk
 pub chunks-preserved : goal.chunks-preserved
 chunks-preserved g c =
     reading_more (g.T.FrontEnd.report c.args.front_end.now) (g.T.FrontEnd.report c.chunks.front_end) (g.T.FrontEnd.report c.read.new.self) c.chunks.bytes.items _ c.read.new.buf c.in-Ok.n c.chunks._reads c.chunks.invariant c.in-Ok.ensures (first_of (search rules, omega arith, grind (arith, common_steps))) (first_of (search rules, grind (arith, common_steps)))

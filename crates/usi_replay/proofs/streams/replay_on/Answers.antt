@@ -10,7 +10,7 @@ pub returns-in_err-script-clause-calls : goal.returns-in_err-script-clause-calls
 returns-in_err-script-clause-calls g c =
     recites_read c.args.host.setup c.args.host.slots.max _ _ c.from_residual.result _ c.from_residual.ensures.1 c.in_err-script.ensures.calls
 
--- it has no output
+-- the script has no output
 pub returns-in_err-host-clause-err : goal.returns-in_err-host-clause-err
 returns-in_err-host-clause-err g c =
     passed_on c.from_residual-in_err-host.result _ _ c.from_residual-in_err-host.ensures.1 (leaves_answer c.args.host.setup c.args.host.slots.max (g.T.FrontEnd.report c.args.front_end.now) (g.T.FrontEnd.report c.read_all.new.front_end) c.as_slice.result.now c.in_err-host.field-0.0 (rw c.as_slice.ensures.value c.in_ok-script.ensures.read) c.in_err-host.ensures c.in_ok-script.ensures.kept)
