@@ -1,4 +1,4 @@
--- What a wire was asked for, call after call.
+-- The calls that a wire was asked for, call after call.
 use Rattle.std.proofs.Common.{List, [], ◌++◌, Option, None, Some, sym, ap, ◌∙◌, append_assoc, append-nil}
 use Rattle.transport.specs.Asked.{Asks}
 

@@ -1,4 +1,4 @@
--- What a wire reports, call after call.
+-- The report of a wire, call after call.
 use Rattle.std.proofs.Common.{◌≡◌, ℕ, Bool, true, false, List, [], ◌∷◌, ◌++◌, Option, Some, None, Result, Ok, Err, refl, sym, ap, ◌∙◌, append-nil, inl, inr}
 use Rattle.std.proofs.lemmas.Bool.{cases_eq}
 use Rattle.std.specs.Prelude.{IsSome}
@@ -85,7 +85,7 @@ Keeps-Appends (Some x) None c bs p q = absurd p
 Keeps-Appends (Some x) (Some y) None bs p q = absurd q
 Keeps-Appends (Some x) (Some y) (Some z) bs p q = q ∙ ap (λ l. l ++ bs) p
 
--- ---- all that is reported of a connection
+-- ---- the whole report of a connection
 
 pub kept_same : (a : Report) (n : ℕ) → KeepsConnection a a n
 kept_same a n = record { unread = Keeps-refl _; given = Keeps-refl _; written = Keeps-refl _; shut = stays-refl _; failed = stays-refl _ }
@@ -112,7 +112,7 @@ nothing_keeps a b number buf r = kept_each a b number (record { unread = Keeps-n
 pub ended_keeps : (a b : Report) (number : ℕ) (buf : List ℕ) → Reads a b number (Ok Ended) buf → KeepsAll a b
 ended_keeps a b number buf r = kept_each a b number (record { unread = Keeps-none _ _ r.consumed; given = Keeps-nothing _ _ r.given; written = r.written; shut = r.shut; failed = r.failed }) r.others
 
--- ---- what moves
+-- ---- bytes that move
 
 pub kept_move : (a b : Report) (n : ℕ) → KeepsConnection a b n → Moves a b n
 kept_move a b n k = record {
@@ -186,7 +186,7 @@ gave_move a b number bytes p = moves_each a b number (record {
 pub away_moves : (a b : Report) (number : ℕ) (gave took : List ℕ) → OnlyRises (a.is_shut number) (b.is_shut number) → OnlyRises (a.has_failed number) (b.has_failed number) → Consumes (a.unread number) (b.unread number) gave → Appends (a.given number) (b.given number) gave → Appends (a.written number) (b.written number) took → KeepsOthers a b number → AllMove a b
 away_moves a b number gave took shut failed unread given written others = moves_each a b number (record { gave = gave; unread = unread; given = given; took = took; written = written; shut = shut; failed = failed }) others
 
--- ---- what is left to be read
+-- ---- bytes left to be read
 
 empty_both : (xs ys : List ℕ) → [] ≡ xs ++ ys → ys ≡ []
 empty_both [] ys e = sym e
@@ -211,7 +211,7 @@ move_emptied_at (Some x) (Some y) c bytes p q = q
 pub move_emptied : (a b c : Report) (n : ℕ) → AllMove a b → IsEmptied (b.unread n) (c.unread n) → IsEmptied (a.unread n) (c.unread n)
 move_emptied a b c n m p = move_emptied_at _ _ _ (m n).gave (m n).unread p
 
--- ---- what is known
+-- ---- known connections
 
 known_at : (a b : Option (List ℕ)) (bytes : List ℕ) → Appends a b bytes → IsSome a → IsSome b
 known_at None b bytes p s = absurd (cc)

@@ -1,4 +1,4 @@
--- What a wire reports of its connections, and what each of its calls does to that (own choice).
+-- Reports of a wire on its connections, and the effect of each call on them (own choice).
 use Rattle.std.specs.Prelude.{◌≡◌, ◌≢◌, ◌-◌, ◌≤◌, ◌<◌, ◌^◌, ◌⊎◌, ℕ, List, [], length, take, ⊤, Bool, true, false, Option, None, Some, Result, Ok, Err, IfOk, IsErrOf}
 use Rattle.std.specs.Io.KnownBytes.{Keeps, Appends, Consumes, IsAtEnd}
 use Rattle.transport.specs.declared.wire.Got.{Got}
@@ -6,8 +6,8 @@ use Rattle.transport.specs.declared.wire.Got.TheVariants.{Bytes, Nothing, Ended}
 use Rattle.transport.specs.declared.wire.WireFault.{WireFault}
 use Rattle.transport.specs.declared.wire.WireFault.TheVariants.{Device}
 
--- of each connection, by its number: the bytes that reads will give from here on, those that reads gave, the bytes that
--- writes took, whether it was shut, and whether a read or a write of it has failed; `None` where the wire does not report it
+-- by a connection's number: the bytes that reads will still give, those given, those written, whether it was shut, and whether a read or write failed;
+-- `None` if the wire does not report it
 pub record Report : Type 0 where
   pub unread : ℕ → Option (List ℕ)
   pub given : ℕ → Option (List ℕ)
@@ -25,24 +25,24 @@ nothing_reported = record {
   has_failed = λ _. None;
 }
 
--- a flag that is reported stays
+-- a reported flag is unchanged
 abbrev pub Stays : Option Bool → Option Bool → Type 0
 Stays None new = ⊤
 Stays (Some flag) new = new ≡ Some flag
 
--- a flag that is reported is true now
+-- a reported flag is true now
 abbrev pub IsRaised : Option Bool → Option Bool → Type 0
 IsRaised None new = ⊤
 IsRaised (Some flag) new = new ≡ Some true
 
--- a flag that is reported is reported still, and stays true once it is
+-- a reported flag stays reported, and stays true once it is
 abbrev pub OnlyRises : Option Bool → Option Bool → Type 0
 OnlyRises None new = ⊤
 OnlyRises (Some flag) None = ⊥
 OnlyRises (Some true) (Some now) = now ≡ true
 OnlyRises (Some false) (Some now) = ⊤
 
--- what is reported of a connection stays
+-- the report of a connection is unchanged
 pub record KeepsConnection (old new : Report) (number : ℕ) : Type 0 where
   pub unread : Keeps (old.unread number) (new.unread number)
   pub given : Keeps (old.given number) (new.given number)
@@ -50,40 +50,40 @@ pub record KeepsConnection (old new : Report) (number : ℕ) : Type 0 where
   pub shut : Stays (old.is_shut number) (new.is_shut number)
   pub failed : Stays (old.has_failed number) (new.has_failed number)
 
--- what is reported of every connection stays
+-- the reports of all connections are unchanged; then those of all but one
 abbrev pub KeepsAll : Report → Report → Type 0
 KeepsAll old new = (number : ℕ) → KeepsConnection old new number
 
 abbrev pub KeepsOthers : Report → Report → ℕ → Type 0
 KeepsOthers old new number = (other : ℕ) → other ≢ number → KeepsConnection old new other
 
--- a call that failed is reported of its connection
+-- a failed call raises the failure flag of its connection
 abbrev pub ReportsFailure : {T : Type 0} → Result T WireFault → Option Bool → Option Bool → Type 0
 ReportsFailure (Ok value) old new = Stays old new
 ReportsFailure (Err fault) old new = IsRaised old new
 
--- the bytes that a read gave, by what is lent after it
+-- the bytes that a read gave, from those lent after it
 abbrev pub bytes_read : Result Got WireFault → List ℕ → List ℕ
 bytes_read (Ok Bytes) lent = lent
 bytes_read (Ok Nothing) lent = []
 bytes_read (Ok Ended) lent = []
 bytes_read (Err fault) lent = []
 
--- a read that gave bytes gave at least one, and at most so many
+-- a read that gave bytes gave at least one and at most `most`
 abbrev pub IsWithin : Result Got WireFault → ℕ → List ℕ → Type 0
 IsWithin (Ok Bytes) most lent = (1 ≤ length lent) × (length lent ≤ most)
 IsWithin (Ok Nothing) most lent = ⊤
 IsWithin (Ok Ended) most lent = ⊤
 IsWithin (Err fault) most lent = ⊤
 
--- at the end nothing is left
+-- a read that found the end leaves no byte
 abbrev pub EndsAt : Result Got WireFault → Option (List ℕ) → Type 0
 EndsAt (Ok Ended) left = IsAtEnd left
 EndsAt (Ok Bytes) left = ⊤
 EndsAt (Ok Nothing) left = ⊤
 EndsAt (Err fault) left = ⊤
 
--- a read gave the next bytes of its connection, or failed and moved none; nothing else changed
+-- a read gave the next bytes of its connection, or failed and gave none; nothing else changed
 pub record Reads (old new : Report) (number : ℕ) (result : Result Got WireFault) (lent : List ℕ)
     : Type 0 where
   pub consumed : Consumes (old.unread number) (new.unread number) (bytes_read result lent)
@@ -99,7 +99,7 @@ abbrev pub bytes_written : Result ℕ WireFault → List ℕ → List ℕ
 bytes_written (Ok n) buf = take n buf
 bytes_written (Err fault) buf = []
 
--- a write took the first bytes, or failed and took none; nothing else changed
+-- a write took a prefix of the bytes, or failed and took none; nothing else changed
 pub record Writes (old new : Report) (number : ℕ) (result : Result ℕ WireFault) (buf : List ℕ)
     : Type 0 where
   pub within : IfOk result (λ n. n ≤ length buf)
@@ -110,7 +110,7 @@ pub record Writes (old new : Report) (number : ℕ) (result : Result ℕ WireFau
   pub failed : ReportsFailure result (old.has_failed number) (new.has_failed number)
   pub others : KeepsOthers old new number
 
--- a connection is shut, where its number is below this bound, and kept what was written; nothing else changed
+-- a connection with a number below the bound is shut, with the bytes written unchanged; nothing else changed
 pub record Shuts (bound : ℕ) (old new : Report) (number : ℕ) : Type 0 where
   pub shut : number < bound → IsRaised (old.is_shut number) (new.is_shut number)
   pub only_rises : OnlyRises (old.is_shut number) (new.is_shut number)
@@ -124,11 +124,11 @@ pub record Shuts (bound : ℕ) (old new : Report) (number : ℕ) : Type 0 where
 abbrev pub HasRisen : ℕ → ℕ → Type 0
 HasRisen before now = (before < now) ⊎ (before ≡ 2 ^ 64 - 1)
 
--- a count of faults never falls, and `Device` is answered only where it rose, or stood at its greatest
+-- a count of faults never falls, and `Device` is returned only if the count rose or stood at its greatest
 abbrev pub HasCause : {T : Type 0} → ℕ → ℕ → Result T WireFault → Type 0
 HasCause before now result = (before ≤ now) × (IsErrOf result Device → HasRisen before now)
 
--- a number that was given lies above those from before; where none was given, the bound stays
+-- a number given is at least the old bound and below the new one; the bound stays if none was given
 abbrev pub GivesNumber : ℕ → ℕ → Result (Option ℕ) WireFault → Type 0
 GivesNumber old new (Ok (Some number)) = (old ≤ number) × (number < new)
 GivesNumber old new (Ok None) = new ≡ old

@@ -1,4 +1,4 @@
-//! Wires: connections under numbers, which are asked and never waited for.
+//! Wires: numbered connections that no read or write waits for.
 #![tactic(auto)]
 
 mod wire;

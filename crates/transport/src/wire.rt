@@ -1,4 +1,4 @@
-//! Connections under numbers, which are asked at each call and never waited for.
+//! Numbered connections; only `wait` ever waits for them.
 
 ghost use Rattle.std.specs.Prelude.{◌≡◌, ◌≤◌, ℕ, List, [], ◌∷◌, Option, None};
 ghost use Rattle.transport.specs.Asked.{Call, Accept, Read, Write, Shut, Wait, Asks};
@@ -7,7 +7,7 @@ ghost use Rattle.transport.specs.declared.wire.WireFault.TheVariants.{OutOfMemor
 
 use std::alloc::{AllocError, AllocFailed};
 
-/// Why a call of a wire failed: the device below it, which the wire counts, or out of memory.
+/// Cause of a failed call: the device below the wire, counted by `faults`, or out of memory.
 #[derive(Clone, Copy, Debug, PartialEq, Eq)]
 pub enum WireFault {
     Device,
@@ -30,44 +30,44 @@ impl<T: Drop> From<AllocFailed<T>> for WireFault {
     }
 }
 
-/// What a read found.
+/// Result of a read.
 #[derive(Clone, Copy, Debug, PartialEq, Eq)]
 pub enum Got {
-    /// Bytes, at least one, which the wire lends.
+    /// At least one byte, lent by the wire.
     Bytes,
-    /// Nothing now.
+    /// No byte now.
     Nothing,
-    /// Nothing from here on.
+    /// No byte from here on.
     Ended,
 }
 
-/// Connections under numbers. Each call touches at most one of them, and one that fails moves no
-/// byte. On a number that `accept` never gave, or that was shut, `read` and `write` answer `Device`.
+/// Numbered connections. Each call touches at most one, and a call that fails moves no byte. `read`
+/// and `write` return `Device` for a number that `accept` never gave or that was shut.
 pub trait Wire {
-    /// What it reports of its connections. A wire may report nothing.
+    /// The report of its connections. A wire may report nothing.
     ghost report: { Self → Report } = { λ _. nothing_reported };
 
-    /// The calls of `accept`, `read`, `write` and `shut` that it was asked for. It may report none.
+    /// The calls of `accept`, `read`, `write`, `shut` and `wait` so far. A wire may report none.
     ghost asked: { Self → Option (List Call) } = { λ _. None };
 
-    /// The numbers that `accept` gave are below this one.
+    /// A bound above all numbers that `accept` gave.
     ghost bound: { Self → ℕ };
 
-    /// How many calls have failed; it stays at 18,446,744,073,709,551,615 once it is there.
+    /// The number of calls that failed with `Device`; it stops at 18,446,744,073,709,551,615.
     ghost failed: { Self → ℕ };
 
-    /// The bytes that it lends.
+    /// The bytes lent to the caller.
     ghost lent: { Self → List ℕ };
 
-    /// The number of a new connection, if one waits. Numbers differ. A call that fails takes nobody.
+    /// The number of a new connection, if one waits; no number comes twice. A call that fails
+    /// accepts nobody.
     fn accept(&mut self) -> Result<Option<u64>, WireFault>
         ensures number { GivesNumber (bound self.old) (bound self.new) result }
         ensures asked { Asks (asked self.old) (asked self.new) (Accept result ∷ []) }
         ensures unchanged { KeepsAll (report self.old) (report self.new) }
         ensures cause { HasCause (failed self.old) (failed self.new) result };
 
-    /// Reads what is there, at most so many bytes, which are 1 or more. The bytes are lent until the next
-    /// call.
+    /// Reads the bytes there are, at least 1 and at most `most`. They are lent until the next call.
     fn read(&mut self, number: u64, most: usize) -> Result<Got, WireFault>
         ensures bound { bound self.new ≡ bound self.old }
         ensures within { IsWithin result most (lent self.new) }
@@ -75,32 +75,32 @@ pub trait Wire {
         ensures asked { Asks (asked self.old) (asked self.new) (Read number most ∷ []) }
         ensures cause { HasCause (failed self.old) (failed self.new) result };
 
-    /// The bytes that it lends: those that the last call gave, where that was a read that gave some.
+    /// The bytes lent: those that the last call gave, if it was a read that gave some.
     fn bytes(&self) -> &[u8]
         ensures { result.now ≡ lent self.now };
 
-    /// Writes what it takes, a prefix, and answers how many bytes; 0 where it takes none now.
+    /// Writes a prefix of `buf` and returns its length; 0 if the connection takes no byte now.
     fn write(&mut self, number: u64, buf: &[u8]) -> Result<usize, WireFault>
         ensures bound { bound self.new ≡ bound self.old }
         ensures written { Writes (report self.old) (report self.new) number result buf.now }
         ensures asked { Asks (asked self.old) (asked self.new) (Write number buf.now ∷ []) }
         ensures cause { HasCause (failed self.old) (failed self.new) result };
 
-    /// Ends a connection. A number that was never given, or that was shut, is passed over.
+    /// Ends a connection. Ignores a number that was never given or that was shut.
     fn shut(&mut self, number: u64)
         ensures bound { bound self.new ≡ bound self.old }
         ensures asked { Asks (asked self.old) (asked self.new) (Shut number ∷ []) }
         ensures shut { Shuts (bound self.old) (report self.old) (report self.new) number }
         ensures faults { failed self.old ≤ failed self.new };
 
-    /// Returns once something may be ready; at once where `idle` is false.
+    /// Returns once something may be ready; at once unless `idle`.
     fn wait(&mut self, idle: bool) -> Result<(), WireFault>
         ensures bound { bound self.new ≡ bound self.old }
         ensures asked { Asks (asked self.old) (asked self.new) (Wait idle result ∷ []) }
         ensures unchanged { KeepsAll (report self.old) (report self.new) }
         ensures cause { HasCause (failed self.old) (failed self.new) result };
 
-    /// How many calls have failed.
+    /// The number of calls that failed with `Device`.
     fn faults(&self) -> u64
         ensures { result ≡ failed self.now };
 }
