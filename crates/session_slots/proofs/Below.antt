@@ -10,7 +10,7 @@ found {T} generation next o h =
     (λ same _. (let e : o.generation ≡ generation = eqb-true o.generation generation same in rw (← e) h))
     (λ _ none. absurd (cc))
 
--- what is found has the generation of its slot
+-- a session found has the generation of its slot
 pub found_below : {T : Type 0} (generation next : ℕ) (slot : Option (OpenSession T)) → IfSome slot (λ o. o.generation < next) → IsSome (of_generation generation slot) → generation < next
 found_below generation next None h none = absurd (cc)
 found_below generation next (Some o) h some = found generation next o h some

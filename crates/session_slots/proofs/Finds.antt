@@ -1,4 +1,4 @@
--- What an id finds after a write to a session.
+-- The session that an id finds after a write.
 use Rattle.std.proofs.Common.{◌≡◌, ◌≢◌, ℕ, ◌<◌, ◌==◌, Bool, true, false, List, length, set, Option, Some, None, cond, refl, sym, ap, ◌∙◌, inl, inr, arith}
 use Rattle.std.specs.Prelude.{slice_index_or}
 use Rattle.std.proofs.lemmas.Bool.{cases_eq, eqb-true, eq-eqb, ne_eqb}
@@ -33,7 +33,7 @@ module _ {T : Type 0} where
   within : (slots : List (Option (OpenSession T))) (key : ℕ) (o : OpenSession T) → slice_index_or slots key None ≡ Some o → key < length slots
   within slots key o e = grind (arith, get_or_past)
 
-  -- the id finds what was written
+  -- the id finds the session written
   pub find-with_session : (s : OpenSessions T) (id : SessionId) (t after : T) → find s id ≡ Some t → find (with_session s id after) id ≡ Some after
   find-with_session s id t after e =
       let a : IsAt id.generation (slice_index_or s.slots id.slot None) = found_at id.generation (slice_index_or s.slots id.slot None) t e in
@@ -49,7 +49,7 @@ module _ {T : Type 0} where
       ∙ (elsewhere other.generation written (λ p. differs (sym p))
       ∙ sym (ap (λ key. of_generation other.generation (slice_index_or s.slots key None)) same ∙ (ap (of_generation other.generation) a.slot_is ∙ elsewhere other.generation a.opened (λ p. differs (sym p ∙ a.generation_is))))))
 
-  -- each other id finds what it found
+  -- each other id finds the session that it found
   pub find-with_session-other : (s : OpenSessions T) (id other : SessionId) (t after : T) → find s id ≡ Some t → other ≢ id → find (with_session s id after) other ≡ find s other
   find-with_session-other s id other t after e differs =
       elim (cases_eq other.slot id.slot) [
@@ -60,14 +60,14 @@ module _ {T : Type 0} where
   same_opened : (o : OpenSession T) (generation : ℕ) (t : T) → o.generation ≡ generation → Some o.session ≡ Some t → o ≡ record { generation = generation; session = t }
   same_opened o generation t e f = (let g : o.session ≡ t = cc in λ k. record { generation = e k; session = g k })
 
-  -- an id that finds a session names its slot whole
+  -- an id that finds a session determines the slot
   pub slot_of : (generation : ℕ) (slot : Option (OpenSession T)) (t : T) → of_generation generation slot ≡ Some t → slot ≡ Some (record { generation = generation; session = t })
   slot_of generation slot t e =
       let a : IsAt generation slot = found_at generation slot t e in
       let f : Some a.opened.session ≡ Some t = sym (here generation a.opened a.generation_is) ∙ (sym (ap (of_generation generation) a.slot_is) ∙ e) in
       a.slot_is ∙ ap Some (same_opened a.opened generation t a.generation_is f)
 
-  -- writing what is there changes nothing
+  -- writing the session that is there changes nothing
   pub with_session-same : (s : OpenSessions T) (id : SessionId) (t : T) → find s id ≡ Some t → with_session s id t ≡ s
   with_session-same s id t e =
       let there : slice_index_or s.slots id.slot None ≡ Some (record { generation = id.generation; session = t }) = slot_of id.generation (slice_index_or s.slots id.slot None) t e in

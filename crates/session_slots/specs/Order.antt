@@ -9,12 +9,12 @@ start_of None = 0
 start_of (Some slot) = slot + 1
 
 module _ {T : Type 0} where
-  -- the id of the first open session of these slots, of which the first has this number
+  -- the id of the first open session of the list, which begins at this slot
   abbrev pub first_open : ℕ → List (Option (OpenSession T)) → Option SessionId
   first_open slot [] = None
   first_open slot (None ∷ rest) = first_open (slot + 1) rest
   first_open slot (Some o ∷ rest) = Some (record { slot = slot; generation = o.generation })
 
-  -- the id of least slot, or of least slot above one
+  -- the id of the open session in the least slot, or in the least slot above `after`
   abbrev pub next_of : OpenSessions T → Option ℕ → Option SessionId
   next_of s after = first_open (start_of after) (drop (start_of after) s.slots)

@@ -7,14 +7,14 @@ pub record OpenSession (T : Type 0) : Type 0 where
   pub generation : ℕ
   pub session : T
 
--- how many may be open, the generation of the next one, and the slots
+-- the most open sessions, the generation of the next one, and the slots
 pub record OpenSessions (T : Type 0) : Type 0 where
   pub max : ℕ
   pub next : ℕ
   pub slots : List (Option (OpenSession T))
 
 module _ {T : Type 0} where
-  -- the session of a slot, where it has this generation
+  -- the session of a slot, if it has this generation
   abbrev pub of_generation : ℕ → Option (OpenSession T) → Option T
   of_generation generation None = None
   of_generation generation (Some o) = cond (o.generation == generation) (Some o.session) None
@@ -23,21 +23,21 @@ module _ {T : Type 0} where
   abbrev pub find : OpenSessions T → SessionId → Option T
   find s id = of_generation id.generation (slice_index_or s.slots id.slot None)
 
-  -- how many are open
+  -- the number of open sessions
   abbrev pub count : OpenSessions T → ℕ
   count s = count_by is_some s.slots
 
-  -- after a write to the session of an id
+  -- the sessions after a write to the one under an id
   abbrev pub with_session : OpenSessions T → SessionId → T → OpenSessions T
   with_session s id session =
       let opened : OpenSession T = record { generation = id.generation; session = session } in
       record s { slots = slice_set s.slots id.slot (Some opened) }
 
-  -- each other id finds what it found
+  -- each other id finds the session that it found
   abbrev pub OthersKept : OpenSessions T → OpenSessions T → SessionId → Type 0
   OthersKept old new id = (other : SessionId) → other ≢ id → find new other ≡ find old other
 
-  -- this session was opened under an id of the next generation, and each other id finds what it found
+  -- this session was opened under an id of the next generation, and each other id finds the session that it found
   pub record Opens (old new : OpenSessions T) (id : SessionId) (session : T) : Type 0 where
     pub generation_is : id.generation ≡ old.next
     pub next_is : new.next ≡ old.next + 1
@@ -47,7 +47,7 @@ module _ {T : Type 0} where
     pub max_is : new.max ≡ old.max
     pub count_is : count new ≡ count old + 1
 
-  -- as many sessions are open as may be, or the next generation would be the greatest number
+  -- all slots are taken, or the next generation would be the greatest number
   abbrev pub IsFull : OpenSessions T → Type 0
   IsFull s = (s.max ≤ count s) ⊎ (s.next ≡ 2 ^ 64 - 1)
 
@@ -55,6 +55,6 @@ module _ {T : Type 0} where
   abbrev pub IsBelow : OpenSessions T → Type 0
   IsBelow s = (id : SessionId) → IsSome (find s id) → id.generation < s.next
 
-  -- it was given out, and finds no session
+  -- the id was given out, and finds no session
   abbrev pub IsSpent : OpenSessions T → SessionId → Type 0
   IsSpent s id = (id.generation < s.next) × (find s id ≡ None)

@@ -1,11 +1,10 @@
-//! The id of a session.
+//! Ids of sessions.
 
-/// The id of a session. No two sessions of one `Slots` have the same id, also where they are opened
-/// in the same slot one after the other.
+/// The id of a session, unique within one `Slots` even if a slot is used again.
 #[derive(Clone, Copy, Debug, PartialEq, Eq)]
 pub struct SessionId {
-    /// Where the session stands. A slot that became vacant is used again.
+    /// The slot of the session. A vacant slot is used again.
     pub slot: usize,
-    /// How many sessions were opened before it.
+    /// The number of sessions opened before this one.
     pub generation: u64,
 }

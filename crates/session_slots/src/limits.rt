@@ -1,4 +1,4 @@
-//! How many sessions there may be (own choice).
+//! The limit of open sessions (own choice).
 
-/// The most sessions that may be open at a time.
+/// The most sessions open at a time.
 pub const SESSIONS_MAX: usize = 1024;

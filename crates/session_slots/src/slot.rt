@@ -5,7 +5,7 @@ ghost use Rattle.std.specs.Borrow.{sem};
 
 use std::marker::Model;
 
-/// An open session, and how many were opened before it.
+/// An open session, and the number of sessions opened before it.
 #[derive(Drop)]
 pub struct Slot<T> {
     pub generation: u64,
@@ -23,7 +23,7 @@ impl<T> Model for Slot<T> {
 impl<T> Slot<T> {
     ghost use Rattle.session_slots.specs.LendsSlot.{lends_session};
 
-    /// The session, to be changed.
+    /// The session, mutably.
     pub fn session_mut(&mut self) -> &mut T
         ensures* writes_back { sem 𝓛 (lends_session T.row self.entry result) }
         ensures value { result.now ≡ self.old.session }

@@ -14,21 +14,21 @@ use slab::Slab;
 use std::alloc::Allocator;
 use std::marker::Model;
 
-/// Why no session was opened. Nothing changed.
+/// The fault of an `open`, which changes nothing.
 #[derive(Clone, Copy, Debug, PartialEq, Eq)]
 pub enum SlotFault {
-    /// As many sessions are open as may be, or no id is left: the next generation would be
+    /// All slots are taken, or no id is left: the next generation would be
     /// 18,446,744,073,709,551,615.
     Full,
-    /// There was room for a session, and no memory for its slot.
+    /// There was room for a session but no memory for its slot.
     OutOfMemory,
 }
 
-/// Open sessions under their ids, at most so many at a time.
+/// Open sessions under their ids, at most `max` at a time.
 #[derive(Drop)]
 pub struct Slots<T, A: Allocator> {
     max: usize,
-    // How many sessions were ever opened: the generation of the next one.
+    // The number of sessions ever opened: the generation of the next one.
     next: u64,
     slots: Slab<Slot<T>, A>,
 }
@@ -48,7 +48,7 @@ impl<T, A: Allocator> Model for Slots<T, A> {
 impl<T, A: Allocator> Slots<T, A> {
     ghost use Rattle.session_slots.specs.Lends.{lends_found, lends_if_found};
 
-    /// No session is open, and at most `max` may be at a time, from 1 to 1,024. It takes no memory.
+    /// No open session, and room for `max`, from 1 to 1,024. Takes no memory.
     pub fn new(alloc: A, max: usize) -> Slots<T, A>
         requires least { 1 ≤ max }
         requires most { max ≤ SESSIONS_MAX }
@@ -61,8 +61,8 @@ impl<T, A: Allocator> Slots<T, A> {
         }
     }
 
-    /// States that each id which finds a session has a generation below the next one, and that no more
-    /// sessions are open than may be.
+    /// States that the id of each open session has a generation below the next one, and that at
+    /// most 1,024 sessions are open.
     pub fn reveal_invariant(&self)
         ensures below { IsBelow self.now }
         ensures few { count self.now ≤ SESSIONS_MAX }
@@ -77,9 +77,9 @@ impl<T, A: Allocator> Slots<T, A> {
         self.slots.len() >= self.max || self.next == u64::MAX
     }
 
-    /// Opens a session, as it is given. Its generation is the number of sessions opened before it,
-    /// so no id comes twice. `Full` is looked at first; a refusal uses no generation and lets the
-    /// session go.
+    /// Opens the given session. Its generation is the number of sessions opened before it, so no id
+    /// comes twice. `Full` comes before `OutOfMemory`; a fault uses no generation and drops the
+    /// session.
     pub fn open(&mut self, session: T) -> Result<SessionId, SlotFault>
     where
         T: Drop,
@@ -103,8 +103,8 @@ impl<T, A: Allocator> Slots<T, A> {
         Ok(SessionId { slot, generation })
     }
 
-    /// The id of the open session of least slot, or of least slot above `after`. It looks at the
-    /// slots that it skips and at no other.
+    /// The id of the open session in the least slot, or in the least slot above `after`. It looks
+    /// only at that slot and the vacant ones before it.
     pub fn next_open(&self, after: Option<usize>) -> Option<SessionId>
         ensures value { result ≡ next_of self.now after }
         ensures open { IfSome result (λ id. IsSome (find self.now id)) }
@@ -129,7 +129,7 @@ impl<T, A: Allocator> Slots<T, A> {
         None
     }
 
-    /// The session of an id, if it is open. The id of a closed one finds nothing, for good.
+    /// The session of the id; `None` forever once it is closed.
     pub fn get(&self, id: SessionId) -> Option<&T>
         ensures { option_copied result ≡ find self.now id }
     {
@@ -141,14 +141,14 @@ impl<T, A: Allocator> Slots<T, A> {
         }
     }
 
-    /// Whether the session of an id is open.
+    /// Whether the session of the id is open.
     fn has(&self, id: SessionId) -> bool
         ensures { IsTrue result ↔ IsSome (find self.now id) }
     {
         self.get(id).is_some()
     }
 
-    /// The session of an id that is open, to be changed.
+    /// The open session of the id, mutably.
     fn session_mut(&mut self, id: SessionId) -> &mut T
         requires { IsSome (find self.old id) }
         ensures* writes_back { sem 𝓛 (lends_found T.row A.row A.Allocator self.entry id result) }
@@ -157,7 +157,7 @@ impl<T, A: Allocator> Slots<T, A> {
         self.slots[id.slot].session_mut()
     }
 
-    /// The session of an id, if it is open, to be changed.
+    /// The session of the id, mutably; `None` if it is not open.
     pub fn get_mut(&mut self, id: SessionId) -> Option<&mut T>
         ensures* writes_back { sem 𝓛 (lends_if_found T.row A.row A.Allocator self.entry id result) }
         ensures value { option_copied_mut result ≡ find self.old id }
@@ -169,8 +169,8 @@ impl<T, A: Allocator> Slots<T, A> {
         }
     }
 
-    /// Closes the session of an id, if it is open, and hands it out. Its id finds nothing from now
-    /// on.
+    /// Closes the session of the id and returns it; `None` if it is not open. The id finds nothing
+    /// from now on.
     pub fn close(&mut self, id: SessionId) -> Option<T>
         ensures value { result ≡ find self.old id }
         ensures if_none { find self.new id ≡ None }
