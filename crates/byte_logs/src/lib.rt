@@ -1,4 +1,4 @@
-//! Bytes that passed, for clauses alone.
+//! Byte logs that only clauses read.
 #![tactic(auto)]
 
 mod log;

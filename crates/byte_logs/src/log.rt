@@ -1,4 +1,4 @@
-//! Bytes that only clauses read.
+//! Byte logs that only clauses read.
 
 ghost use Rattle.std.specs.Prelude.{◌≡◌, ℕ, List, [], ◌++◌};
 ghost use Rattle.std.specs.Borrow.{ftrue};
@@ -7,7 +7,7 @@ ghost use Rattle.byte_logs.specs.Noted.{last_under};
 use http_server::Log;
 use std::marker::{Model, PhantomData};
 
-/// Bytes that passed, for clauses alone. It takes no memory, and its calls do nothing at run time.
+/// Bytes that only clauses read. Takes no memory and does nothing at run time.
 #[derive(Drop)]
 pub struct Bytes {
     marker: PhantomData<u8>,
@@ -19,7 +19,7 @@ impl Model for Bytes {
 }
 
 impl Bytes {
-    /// None yet.
+    /// An empty log.
     pub fn new() -> Bytes
         ensures { result.items ≡ [] }
     {
@@ -28,12 +28,12 @@ impl Bytes {
         }
     }
 
-    /// These come next.
+    /// Appends the bytes.
     pub fn note(&mut self, _bytes: &[u8])
         ensures { self.new.items ≡ self.old.items ++ _bytes.now }
     {}
 
-    /// Those that were noted last under a number.
+    /// The bytes noted last under the number; none if there are none.
     pub fn last_under(_noted: &Log<u64, Bytes>, _number: &u64) -> Bytes
         ensures { result.items ≡ last_under (λ bytes. bytes.items) _noted.now.items _number.now }
     {
