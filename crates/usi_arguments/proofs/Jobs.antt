@@ -1,4 +1,4 @@
--- Options of which one has no value that a job may have.
+-- Options of which one has no value for a job.
 use Rattle.std.proofs.Common.{◌≡◌, ◌-◌, ◌^◌, List, None, codes}
 use Rattle.clap.specs.Words.{Row, first_of}
 use Rattle.usi_arguments.specs.Answers.{HasNoHost, NamesNoMate, NamesNoPerft, NamesNoReplay, NamesNoServe, NamesNoStdio}

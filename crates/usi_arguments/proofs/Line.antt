@@ -1,4 +1,4 @@
--- The command line, and its answers at arguments that are written out.
+-- The command line, and its answers to some arguments in full.
 use Rattle.std.proofs.Common.{◌≡◌, ◌∷◌, ◌∙◌, true, false, ℕ, List, [], Result, Ok, Err, Option, Some, None, IfOk, IfErr, IfSome, codes, refl, sym, ap, arith, subst, slice_index_or, inl, inr, lit≤, lit<}
 use Rattle.std.proofs.lemmas.Bool.{true≢false}
 use Rattle.std.specs.Prelude.{string_bytes}
@@ -67,7 +67,7 @@ row name usual = record {
   reading = AsWritten;
 }
 
--- the options of the setup, of `stdio` and of `replay` where none is given
+-- the options of the setup, of `stdio` and of `replay` if none is given
 abbrev setup_rows : List Row
 setup_rows = row (codes "max-depth") (codes "16") ∷ row (codes "lines") (codes "1") ∷ row (codes "eval") (codes "plain") ∷ []
 
@@ -93,7 +93,7 @@ pub replay_command_is : command_of (codes "replay" ∷ []) ≡ Some (codes "repl
 unfolding clap_on_literals
 replay_command_is = refl
 
--- what the parse of the arguments gives
+-- the result of parsing the arguments
 pub record IsParsedLine (arguments : List Text) (parsed : Result ArgMatches Error) : Type 0 where
   pub matches : IfOk parsed (λ m. subcommand_rows_of m ≡ command_of arguments)
   pub kinds : FailsBy (faults_of arguments) parsed
@@ -172,7 +172,7 @@ line_refused arguments (Err e) (Err (NotAccepted text)) line is = elim line.kind
   | inr among ↦ inl (kind_of e, among, is.0)
 ]
 
--- an evaluation that is not known is refused with its text
+-- an unknown evaluation is refused with its text
 pub refused_evaluation : (command : Option (Text × List Row)) (r : Result Job ArgumentsFault) → NamesNoEvaluation command → IsRefusal not_an_evaluation r → IsJobOf command r
 refused_evaluation command (Ok job) none is = absurd is
 refused_evaluation command (Err OutOfMemory) none is = tt
@@ -196,7 +196,7 @@ not_unfit : (job : Job) (said : List ℕ) → HasReach job → IsUnfitIn job sai
 not_unfit job said reach (inl deep) = not_too_deep job said reach deep
 not_unfit job said reach (inr even) = let bad : true ≡ false = sym even.0 ∙ reach.1 in absurd (true≢false bad)
 
--- a command that knows its evaluation, and names one job only, which is within its reach, is not refused
+-- a command with a known evaluation and a single job within its reach is not refused
 has_job : (command : Option (Text × List Row)) (job : Job) (said : List ℕ) → KnowsEvaluation command → NamesJob command job → HasRanges job → HasReach job
     → ((other : Job) → NamesJob command other → other ≡ job) → IsNoJob command said → ⊥
 has_job (Some command) job said (inl bare) names range reach only (inl is) = let bad : true ≡ false = sym bare ∙ is.0.0 in absurd (true≢false bad)
@@ -206,7 +206,7 @@ has_job command job said knows names range reach only (inr (inl is)) = is.1 job 
 has_job command job said knows names range reach only (inr (inr is)) =
     not_unfit job said reach (subst (λ (j : Job). IsUnfitIn j said) (only is.0 is.1.1) is.2)
 
--- arguments without a mistake that name one job only give it
+-- arguments without a mistake that name a single job give it
 gives : (arguments : List Text) (job : Job) (r : Result Job ArgumentsFault)
     → faults_of arguments ≡ []
     → KnowsEvaluation (command_of arguments)
@@ -227,7 +227,7 @@ gives arguments job (Err (NotAccepted text)) none knows names range reach only a
   | inr no_job ↦ absurd (has_job (command_of arguments) job (string_bytes text) knows names range reach only no_job.1)
 ]
 
--- arguments whose command is known
+-- arguments of a known command that name a single job give it
 gives_of : (arguments : List Text) (job : Job) (command : Option (Text × List Row)) (r : Result Job ArgumentsFault) → faults_of arguments ≡ []
     → command_of arguments ≡ command → KnowsEvaluation command → NamesJob command job → HasRanges job → HasReach job → ((other : Job) → NamesJob command other → other ≡ job)
     → IfOk r (IsAskedBy arguments) → IfErr r (IsRefusedFor arguments) → Gives job r
@@ -332,7 +332,7 @@ among_one : (x k : ErrorKind) → IsAmong k (x ∷ []) → k ≡ x
 among_one x k (inl is) = is
 among_one x k (inr none) = absurd none
 
--- arguments that are refused have a mistake: not one request alone
+-- refused arguments have a mistake, not a single request
 not_refused : (arguments : List Text) (said : List ℕ) (kind : ErrorKind) → faults_of arguments ≡ kind ∷ [] → (IsMistake kind → ⊥) → HasMistake arguments said → ⊥
 not_refused arguments said kind is request (inl mistake) = request (subst IsMistake (among_one kind mistake.0 (subst (λ (k : Kinds). IsAmong mistake.0 k) is mistake.1)) mistake.2)
 not_refused arguments said kind is request (inr none) =

@@ -1,9 +1,9 @@
--- What a number that was read says of the options.
+-- The numbers that options name.
 use Rattle.std.proofs.Common.{◌≡◌, ◌∙◌, ◌<◌, ◌^◌, ◌≤◌, ℕ, List, Option, Some, None, IfNone, sym, arith}
 use Rattle.clap.specs.Words.{Row, Text, first_of}
 use Rattle.usi_arguments.specs.CommandLine.{IsFromOne, IsNumber, NamesNumber}
 
--- a text is the decimal number of one number only
+-- a text is the numeral of one number only
 number_once : (text : Text) (m n : ℕ) → IsNumber text m → IsNumber text n → m ≡ n
 number_once text m n a b = a.1 ∙ sym b.1
 
@@ -19,7 +19,7 @@ pub no_text : (most : ℕ) (name : Text) (options : List Row) → first_of name 
     → (n : ℕ) → IsFromOne most n → NamesNumber name options n → ⊥
 no_text most name options none n range named = let is = named.1 in cc
 
--- an option whose text is no number below 2 ^ 64 has none of the range
+-- an option whose text is no number below 2 ^ 64 has none in the range
 pub no_number : (most : ℕ) (name : Text) (options : List Row) (text : Text) → most < 2 ^ 64 → first_of name options ≡ Some text
     → ((n : ℕ) → n < 2 ^ 64 → IsNumber text n → ⊥) → (n : ℕ) → IsFromOne most n → NamesNumber name options n → ⊥
 no_number most name options text small is none n range named =
@@ -28,14 +28,14 @@ no_number most name options text small is none n range named =
     let top : n ≤ most = range.1 in
     none n (omega arith) (rw texts at named.2)
 
--- where it has another number, it has none of the range
+-- an option with a number outside the range has none in the range
 pub other_in_range : (most : ℕ) (name : Text) (options : List Row) (m : ℕ) → (IsFromOne most m → ⊥) → NamesNumber name options m
     → (n : ℕ) → IsFromOne most n → NamesNumber name options n → ⊥
 other_in_range most name options m out other n range named =
     let same : n ≡ m = names_once name options n m named other in
     out (rw same at range)
 
--- a fact that holds anyhow holds of a None
+-- a fact that always holds also holds of a None
 pub if_none : {T : Type 0} (r : Option T) (P : Type 0) → P → IfNone r P
 if_none (Some n) P p = tt
 if_none None P p = p

@@ -1,4 +1,4 @@
--- What the options of the setup name.
+-- The setups that options name.
 use Rattle.std.proofs.Common.{◌≡◌, ◌∙◌, ◌≤◌, ℕ, List, Option, Some, None, IfNone, codes, refl, sym, ap, arith, inl, inr, min}
 use Rattle.clap.specs.Words.{Row, Text, first_of}
 use Rattle.usi_arguments.specs.Answers.{NamesHost}
@@ -45,7 +45,7 @@ host_once options a b first second =
       setup = setup k;
     }
 
--- options of which one has no value that a setup may have
+-- options of which one has no value for a setup
 pub no_max_depth : (options : List Row) → HasNone (codes "max-depth") 16 options → HasNoSetup options
 no_max_depth options none setup range is = none setup.max_depth range.1 is.1
 
@@ -57,7 +57,7 @@ no_depth options most max_is none setup range is =
 pub no_lines : (options : List Row) → HasNone (codes "lines") 8 options → HasNoSetup options
 no_lines options none setup range is = none setup.lines range.2 is.2
 
--- a depth that is named is no number of the range
+-- an option `--depth` without a number in the range names no depth
 no_named_depth : (options : List Row) (most : ℕ) (text : Text) → first_of (codes "depth") options ≡ Some text → HasNone (codes "depth") 16 options → HasNoDepth options most
 no_named_depth options most text is none depth range (inl named) = none depth range named
 no_named_depth options most text is none depth range (inr left_out) = let out = left_out.0 in cc
@@ -67,7 +67,7 @@ pub no_named_depths : (options : List Row) (most : ℕ) (text : Text) (r : Optio
 no_named_depths options most text (Some n) is none = tt
 no_named_depths options most text None is none = no_named_depth options most text is none
 
--- a depth that is left out is 3, or less
+-- a depth that is left out is 3 or less
 pub left_out_depth : (options : List Row) (most depth : ℕ) → IsFromOne 16 most → first_of (codes "depth") options ≡ None → depth ≡ min 3 most → HasDepth options most depth
 left_out_depth options most depth range none is =
     let least : 1 ≤ most = range.0 in

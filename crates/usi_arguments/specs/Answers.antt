@@ -1,4 +1,4 @@
--- When each answer to the arguments comes.
+-- Answers to the arguments, and the arguments that lead to each.
 use Rattle.std.specs.Prelude.{◌≡◌, ◌≢◌, ◌⊎◌, ◌∷◌, ◌-◌, ◌^◌, ◌||◌, ◌%◌, ◌==◌, ℕ, Bool, true, false, List, [], Option, Some, None, Result, Ok, Err, IfSome, MatchResult, ⊤, codes, string_bytes}
 use Rattle.std.specs.Str.{bytes_eq}
 use Rattle.clap.specs.Words.{IsAmong, Row, Text, kind_of, subcommand_rows_of}
@@ -17,7 +17,7 @@ use Rattle.usi_arguments.specs.declared.arguments.Job.TheVariants.{Stdio, Replay
 use Rattle.usi_arguments.specs.declared.arguments.ArgumentsFault.{ArgumentsFault}
 use Rattle.usi_arguments.specs.declared.arguments.ArgumentsFault.TheVariants.{OutOfMemory, NotAccepted}
 
--- the numbers of a host lie in their ranges
+-- the numbers of a host are in their ranges
 abbrev pub HasHostRanges : HostOptions → Type 0
 HasHostRanges host = IsFromOne 1024 host.slots × IsFromOne 1000000 host.entries
     × IsFromOne 1000000000 host.slice × HasSetupRanges host.setup
@@ -28,19 +28,19 @@ NamesHost options host = NamesNumber (codes "slots") options host.slots
     × NamesNumber (codes "entries") options host.entries
     × NamesNumber (codes "slice") options host.slice × NamesSetup options host.setup
 
--- they name it, and its numbers lie in their ranges
+-- the options name this host, and its numbers are in their ranges
 abbrev pub AreHostOptions : List Row → HostOptions → Type 0
 AreHostOptions options host = HasHostRanges host × NamesHost options host
 
--- they name no host whose numbers lie in their ranges
+-- the options name no host with numbers in their ranges
 abbrev pub HasNoHost : List Row → Type 0
 HasNoHost options = (host : HostOptions) → HasHostRanges host → NamesHost options host → ⊥
 
--- the host of `replay` where no option is given
+-- the host of `replay` without options
 abbrev pub usual_host : HostOptions
 usual_host = record { slots = 64; entries = 4096; slice = 300; setup = usual_setup }
 
--- the numbers of the job lie in their ranges
+-- the numbers of the job are in their ranges
 abbrev pub HasRanges : Job → Type 0
 HasRanges (Stdio entries setup) = IsFromOne 1000000 entries × HasSetupRanges setup
 HasRanges (Replay host) = HasHostRanges host
@@ -67,22 +67,22 @@ abbrev pub is_even : Job → Bool
 is_even (Mate sfen plies line keys) = plies % 2 == 0
 is_even job = false
 
--- the job's sessions begin with a depth that they may search, and a mate is sought in an odd number of plies
+-- the job's depth is at most its greatest, and its plies are odd
 abbrev pub HasReach : Job → Type 0
 HasReach job = IfSome (setup_in job) IsInReach × (is_even job ≡ false)
 
--- the job is `stdio`, with the number and the setup that these options name
+-- the job is `stdio`, with the number and the setup that the options name
 abbrev pub IsStdioOf : List Row → Job → Type 0
 IsStdioOf options (Stdio entries setup) =
     NamesNumber (codes "entries") options entries × NamesSetup options setup
 IsStdioOf options _ = ⊥
 
--- the job is `replay`, with the host that these options name
+-- the job is `replay`, with the host that the options name
 abbrev pub IsReplayOf : List Row → Job → Type 0
 IsReplayOf options (Replay host) = NamesHost options host
 IsReplayOf options _ = ⊥
 
--- the job is `serve`, with the paths, the turns and the host that these options name
+-- the job is `serve`, with the paths, the turns and the host that the options name
 abbrev pub IsServeOf : List Row → Job → Type 0
 IsServeOf options (Serve socket status turns host) =
     NamesText (codes "socket") options (string_bytes socket)
@@ -90,19 +90,19 @@ IsServeOf options (Serve socket status turns host) =
     × NamesNumber (codes "turns") options turns × NamesHost options host
 IsServeOf options _ = ⊥
 
--- the job is `perft`, with the position, the depth and the word that these options name
+-- the job is `perft`, with the position, the depth and the flag of the options
 abbrev pub IsPerftOf : List Row → Job → Type 0
 IsPerftOf options (Perft sfen depth divide) =
     NamesNumber (codes "depth") options depth × NamesTextIfAny (codes "sfen") options sfen
     × (divide ≡ is_set (codes "divide") options)
 IsPerftOf options _ = ⊥
 
--- the job is `moves`, with the position that these options name
+-- the job is `moves`, with the position that the options name
 abbrev pub IsMovesOf : List Row → Job → Type 0
 IsMovesOf options (Moves sfen) = NamesTextIfAny (codes "sfen") options sfen
 IsMovesOf options _ = ⊥
 
--- the job is `mate`, with the position, the plies and the words that these options name
+-- the job is `mate`, with the position, the plies and the flags of the options
 abbrev pub IsMateOf : List Row → Job → Type 0
 IsMateOf options (Mate sfen plies line keys) =
     NamesNumber (codes "plies") options plies × NamesTextIfAny (codes "sfen") options sfen
@@ -119,11 +119,11 @@ NamesJob (Some command) job = ((command.0 ≡ codes "stdio") × IsStdioOf comman
     ⊎ ((command.0 ≡ codes "moves") × IsMovesOf command.1 job)
     ⊎ ((command.0 ≡ codes "mate") × IsMateOf command.1 job)
 
--- the job has its numbers in their ranges, and is `serve` as these options name it
+-- the job has its numbers in their ranges, and is `serve` as the options name it
 abbrev pub IsServeIn : List Row → Job → Type 0
 IsServeIn options job = HasRanges job × IsServeOf options job
 
--- the same of `perft`, and of `mate`
+-- the job has its numbers in their ranges, and is `perft` as the options name it; then for `mate`
 abbrev pub IsPerftIn : List Row → Job → Type 0
 IsPerftIn options job = HasRanges job × IsPerftOf options job
 
@@ -134,7 +134,7 @@ IsMateIn options job = HasRanges job × IsMateOf options job
 abbrev pub IsJobIn : Option (Text × List Row) → Job → Type 0
 IsJobIn command job = HasRanges job × NamesJob command job
 
--- these options name no `stdio`, no `replay`, no `serve`, no `perft`, no `mate`, whose numbers lie in their ranges
+-- the options name no `stdio` with numbers in their ranges; then for `replay`, `serve`, `perft` and `mate`
 abbrev pub NamesNoStdio : List Row → Type 0
 NamesNoStdio options = (job : Job) → HasRanges job → IsStdioOf options job → ⊥
 
@@ -150,7 +150,7 @@ NamesNoPerft options = (job : Job) → HasRanges job → IsPerftOf options job �
 abbrev pub NamesNoMate : List Row → Type 0
 NamesNoMate options = (job : Job) → HasRanges job → IsMateOf options job → ⊥
 
--- the command names no job whose numbers are written in digits alone and lie in their ranges
+-- the command names no job with numbers in digits alone and in their ranges
 abbrev pub NamesNoJob : Option (Text × List Row) → Type 0
 NamesNoJob command = (job : Job) → HasRanges job → NamesJob command job → ⊥
 
@@ -160,7 +160,7 @@ IsAskedBy arguments (Help text) = IsAmong kinds.DisplayHelp (faults_of arguments
 IsAskedBy arguments Version = IsAmong kinds.DisplayVersion (faults_of arguments)
 IsAskedBy arguments job = (faults_of arguments ≡ []) × NamesJob (command_of arguments) job
 
--- an error of this kind is a mistake, and no request for help or for the version
+-- an error of this kind is a mistake, not a request for help or for the version
 abbrev pub IsMistake : ErrorKind → Type 0
 IsMistake kind = (kind ≢ kinds.DisplayHelp) × (kind ≢ kinds.DisplayVersion)
 
@@ -169,7 +169,7 @@ abbrev pub has_no_setup : Text → Bool
 has_no_setup name =
     bytes_eq name (codes "perft") || (bytes_eq name (codes "moves") || bytes_eq name (codes "mate"))
 
--- the command has an evaluation that is known, or none; and it has one that is not
+-- the command has a known evaluation, or needs none; then: its evaluation is not known
 abbrev pub KnowsEvaluation : Option (Text × List Row) → Type 0
 KnowsEvaluation None = ⊤
 KnowsEvaluation (Some command) = (has_no_setup command.0 ≡ true)
@@ -180,23 +180,22 @@ NamesNoEvaluation None = ⊥
 NamesNoEvaluation (Some command) =
     (has_no_setup command.0 ≡ false) × HasNoEvaluation command.1
 
--- this is said of the setup of the job, which begins with a depth above its greatest
+-- the text refuses the job's depth, which is above its greatest
 abbrev pub IsTooDeepIn : Job → List ℕ → Type 0
 IsTooDeepIn job said = (setup : SetupOptions) × (setup_in job ≡ Some setup) × IsTooDeep setup
     × (said ≡ too_deep setup.depth setup.max_depth)
 
--- this is said of the job, whose numbers do not go together: its depth is above its greatest, or its plies are even
+-- the text refuses the job: its depth is above its greatest, or its plies are even
 abbrev pub IsUnfitIn : Job → List ℕ → Type 0
 IsUnfitIn job said = IsTooDeepIn job said ⊎ ((is_even job ≡ true) × (said ≡ not_odd))
 
--- why the command names no job, and what is said of it: its evaluation is not known; or a number is not written in
--- digits alone; or all are, and do not go together
+-- the text refuses the command: its evaluation is unknown, a number is not in digits alone, or its numbers do not go together
 abbrev pub IsNoJob : Option (Text × List Row) → List ℕ → Type 0
 IsNoJob command said = (NamesNoEvaluation command × (said ≡ not_an_evaluation))
     ⊎ (KnowsEvaluation command × NamesNoJob command × (said ≡ not_digits))
     ⊎ ((job : Job) × IsJobIn command job × IsUnfitIn job said)
 
--- the arguments have a mistake, or are read without one and name no job, of which this is said
+-- the arguments have a mistake for `clap`, or are read but name no job and are refused with this text
 abbrev pub HasMistake : List Text → List ℕ → Type 0
 HasMistake arguments said =
     ((kind : ErrorKind) × IsAmong kind (faults_of arguments) × IsMistake kind)
@@ -207,19 +206,19 @@ abbrev pub IsRefusedFor : List Text → ArgumentsFault → Type 0
 IsRefusedFor arguments OutOfMemory = ⊤
 IsRefusedFor arguments (NotAccepted text) = HasMistake arguments (string_bytes text)
 
--- this job, or memory ran out
+-- the result is this job, or memory ran out
 abbrev pub Gives : Job → Result Job ArgumentsFault → Type 0
 Gives job result = (result ≡ Ok job) ⊎ (result ≡ Err OutOfMemory)
 
--- the job of `replay` with the host that it has where no option is given, or memory ran out
+-- the result is `replay` with its default host, or memory ran out
 abbrev pub GivesReplay : Result Job ArgumentsFault → Type 0
 GivesReplay result = Gives (Replay usual_host) result
 
--- the job of `stdio` with the number that it has where none is given, or memory ran out
+-- the result is `stdio` with its default number and setup, or memory ran out
 abbrev pub GivesStdio : Result Job ArgumentsFault → Type 0
 GivesStdio result = Gives (Stdio 4096 usual_setup) result
 
--- a help, or memory ran out
+-- the result is a help, or memory ran out
 abbrev pub GivesHelp : Result Job ArgumentsFault → Type 0
 GivesHelp (Ok (Help text)) = ⊤
 GivesHelp (Ok job) = ⊥
@@ -233,7 +232,7 @@ AreStdioArguments arguments = arguments ≡ codes "stdio" ∷ []
 abbrev pub AreReplayArguments : List Text → Type 0
 AreReplayArguments arguments = arguments ≡ codes "replay" ∷ []
 
--- the arguments ask for help, or for the version, and for nothing else
+-- the arguments ask for help and nothing else; then for the version
 abbrev pub AreHelpArguments : List Text → Type 0
 AreHelpArguments arguments = (arguments ≡ codes "--help" ∷ []) ⊎ (arguments ≡ codes "-h" ∷ [])
 
@@ -252,7 +251,7 @@ IsRefusal said (Ok job) = ⊥
 IsRefusal said (Err OutOfMemory) = ⊤
 IsRefusal said (Err (NotAccepted text)) = string_bytes text ≡ said
 
--- the answer to a job that was named: it is given where its numbers go together
+-- the answer to a named job: the job, if its numbers go together
 abbrev pub IsHeld : Job → Result Job ArgumentsFault → Type 0
 IsHeld job (Ok given) = (given ≡ job) × HasReach job
 IsHeld job (Err OutOfMemory) = ⊤
@@ -266,13 +265,13 @@ IsAnswerTo kind (Ok job) = ⊥
 IsAnswerTo kind (Err OutOfMemory) = ⊤
 IsAnswerTo kind (Err (NotAccepted text)) = IsMistake kind × (kind ≢ kinds.OutOfMemory)
 
--- the answer to what `clap` made of the arguments
+-- the answer to the result of `clap`
 abbrev pub IsAnswerToParsed : Result ArgMatches Error → Result Job ArgumentsFault → Type 0
 IsAnswerToParsed parsed result =
     MatchResult parsed (λ matches. IsJobOf (subcommand_rows_of matches) result)
     (λ error. IsAnswerTo (kind_of error) result)
 
--- where arguments are not accepted, this is what is said
+-- arguments that are not accepted are refused with this text
 abbrev pub Says : List ℕ → ArgumentsFault → Type 0
 Says text OutOfMemory = ⊤
 Says text (NotAccepted said) = string_bytes said ≡ text

@@ -1,4 +1,4 @@
--- What the arguments after the program's name ask for, as `clap` reads them (own choice).
+-- The request of the arguments after the program's name, as `clap` reads them (own choice).
 use Rattle.std.specs.Prelude.{◌≡◌, ◌∷◌, ◌≤◌, ◌-◌, ◌^◌, ℕ, Bool, true, false, IfOk, List, [], None, Option, Result, Some, String, codes, option_map, string_bytes}
 use Rattle.std.specs.Str.{bytes_eq}
 use Rattle.std.specs.Str.Parse.{IsNumeral, digits_value}
@@ -17,59 +17,59 @@ value_option name = record (new_rule name) {
   value_names = 1;
 }
 
--- the option `--NAME N`, a number from 1 to `most`, and `usual` where it is left out
+-- the option `--NAME N`, a number from 1 to `most`; default `usual`
 abbrev pub number_option : Text → ℕ → Text → Rule
 number_option name most usual = record (value_option name) {
   defaults = usual ∷ [];
   parser = Some (parser.Unsigned 1 most);
 }
 
--- how many sessions may be open: `--slots N`, from 1 to 1024, and 64 where it is left out
+-- the most open sessions: `--slots N`, from 1 to 1024; default 64
 abbrev pub slots_option : Rule
 slots_option = number_option (codes "slots") 1024 (codes "64")
 
--- how many entries the table has: `--entries N`, from 1 to 1000000, and 4096 where it is left out
+-- the entries of the table: `--entries N`, from 1 to 1000000; default 4096
 abbrev pub entries_option : Rule
 entries_option = number_option (codes "entries") 1000000 (codes "4096")
 
--- how many steps a session may make in a round: `--slice N`, from 1 to 1000000000, and 300 where it is left out
+-- the most search steps of a session in a round: `--slice N`, from 1 to 1000000000; default 300
 abbrev pub slice_option : Rule
 slice_option = number_option (codes "slice") 1000000000 (codes "300")
 
--- after how many turns the program ends: `--turns N`, from 1 to the greatest number of 64 bits, which it is where it is left out
+-- the turns after which the program ends: `--turns N`, from 1 to the greatest number of 64 bits, which is the default
 abbrev pub turns_option : Rule
 turns_option = number_option (codes "turns") (2 ^ 64 - 1) (codes "18446744073709551615")
 
--- where the socket is made: `--socket PATH`, which has to be there
+-- the path of the socket: `--socket PATH`, required
 abbrev pub socket_option : Rule
 socket_option = record (value_option (codes "socket")) { required = true }
 
--- the option Depth as a session begins: `--depth N`, from 1 to 16; where it is left out it is not the same for each
--- `--max-depth`, and so no default of `clap`
+-- the value of the option Depth as a session begins: `--depth N`, from 1 to 16;
+-- its default depends on `--max-depth`, so `clap` has none
 abbrev pub depth_option : Rule
 depth_option = record (value_option (codes "depth")) { parser = Some (parser.Unsigned 1 16) }
 
--- the greatest depth of a search: `--max-depth N`, from 1 to 16, which it is where it is left out
+-- the greatest depth of a search: `--max-depth N`, from 1 to 16; default 16
 abbrev pub max_depth_option : Rule
 max_depth_option = number_option (codes "max-depth") 16 (codes "16")
 
--- the option MultiPV as a session begins: `--lines N`, from 1 to 8, and 1 where it is left out
+-- the value of the option MultiPV as a session begins: `--lines N`, from 1 to 8; default 1
 abbrev pub lines_option : Rule
 lines_option = number_option (codes "lines") 8 (codes "1")
 
--- the option Eval as a session begins: `--eval NAME`, and `plain` where it is left out
+-- the value of the option Eval as a session begins: `--eval NAME`; default `plain`
 abbrev pub eval_option : Rule
 eval_option = record (value_option (codes "eval")) { defaults = codes "plain" ∷ [] }
 
--- the option has this rule, and is one of its own command alone
+-- the option has this rule and is not global
 abbrev pub IsOption : Rule → Arg → Type 0
 IsOption rule arg = (rule_of arg ≡ rule) × (arg.global ≡ false)
 
--- the command is this one, with no option that its commands share
+-- the command is this one, without global options
 abbrev pub IsCommand : App → Command → Type 0
 IsCommand app command = (app_of command ≡ app) × ((fields_of command).has_globals ≡ false)
 
--- the command, where it could be made, is this one
+-- if the command could be made, it is this one
 abbrev pub IsMade : {E : Type 0} → App → Result Command E → Type 0
 IsMade app made = IfOk made (IsCommand app)
 
@@ -83,7 +83,7 @@ with_setup_options command =
 abbrev pub stdio_command : App
 stdio_command = with_setup_options (with_rule (new_app (codes "stdio")) entries_option)
 
--- a command with the options of a host: how many sessions, how many entries and how many steps
+-- a command with the options of a host: sessions, entries and steps
 abbrev pub with_host_options : App → App
 with_host_options command =
     with_rule (with_rule (with_rule command slots_option) entries_option) slice_option
@@ -92,7 +92,7 @@ with_host_options command =
 abbrev pub replay_command : App
 replay_command = with_setup_options (with_host_options (new_app (codes "replay")))
 
--- where a second socket is made, for the status: `--status PATH`, which may be left out
+-- the path of a second socket, for the status: `--status PATH`, which may be left out
 abbrev pub status_option : Rule
 status_option = value_option (codes "status")
 
@@ -108,7 +108,7 @@ serve_command = with_rule (with_setup_options (with_host_options socket_command)
 abbrev pub sfen_option : Rule
 sfen_option = value_option (codes "sfen")
 
--- how many moves long the sequences are: `--depth N`, from 1 to 16, which has to be there
+-- the number of moves of a sequence: `--depth N`, from 1 to 16, required
 abbrev pub plies_option : Rule
 plies_option = record (value_option (codes "depth")) {
   required = true;
@@ -122,7 +122,7 @@ flag_option name = record (new_rule name) {
   action = Some SetTrue;
 }
 
--- whether the counts of the first moves are told: `--divide`
+-- the flag for the counts of the first moves: `--divide`
 abbrev pub divide_option : Rule
 divide_option = flag_option (codes "divide")
 
@@ -136,11 +136,11 @@ perft_command =
 abbrev pub moves_command : App
 moves_command = with_rule (new_app (codes "moves")) sfen_option
 
--- how long a mate may be: `--plies N`, from 1 to 15, and 9 where it is left out
+-- the most plies of a mate: `--plies N`, from 1 to 15; default 9
 abbrev pub mate_plies_option : Rule
 mate_plies_option = number_option (codes "plies") 15 (codes "9")
 
--- the command `mate` with the options of a position and of its length
+-- the command `mate` with the options of its position and its length
 abbrev pub mate_position : App
 mate_position = with_rule (with_rule (new_app (codes "mate")) mate_plies_option) sfen_option
 
@@ -162,15 +162,15 @@ stdio_line = with_subcommand bare_line stdio_command.top
 abbrev pub replay_line : App
 replay_line = with_subcommand stdio_line replay_command.top
 
--- the program with the three commands of sessions
+-- the program with the three commands that have sessions
 abbrev pub serve_line : App
 serve_line = with_subcommand replay_line serve_command.top
 
--- the program with these and `perft`
+-- the program with four commands, up to `perft`
 abbrev pub perft_line : App
 perft_line = with_subcommand serve_line perft_command.top
 
--- the program with these and `moves`
+-- the program with five commands, up to `moves`
 abbrev pub moves_line : App
 moves_line = with_subcommand perft_line moves_command.top
 
@@ -178,8 +178,8 @@ moves_line = with_subcommand perft_line moves_command.top
 abbrev pub command_line : App
 command_line = with_subcommand moves_line mate_command.top
 
--- the kinds of mistake for which the arguments are refused, or a request for help or for the
--- version; none where they are a command line
+-- the kinds of mistake in the arguments, or a request for help or for the version;
+-- none if they are a command line
 abbrev pub faults_of : List Text → Kinds
 faults_of = fault_of command_line
 
@@ -195,11 +195,11 @@ IsNumber text n = IsNumeral 10 text × (n ≡ digits_value 10 text)
 abbrev pub NamesText : Text → List Row → Text → Type 0
 NamesText name options text = first_of name options ≡ Some text
 
--- the option of this name has this text, or it is left out and there is none
+-- the option of this name has this text; if it is left out, there is none
 abbrev pub NamesTextIfAny : {A : Type 0} → Text → List Row → Option (String A) → Type 0
 NamesTextIfAny name options text = first_of name options ≡ option_map string_bytes text
 
--- the text of an option that has no value and is there
+-- the text is that of a flag that is set
 abbrev pub is_true : Option Text → Bool
 is_true None = false
 is_true (Some text) = bytes_eq text (codes "true")
@@ -220,10 +220,10 @@ HasNumber name most options n = IsFromOne most n × NamesNumber name options n
 abbrev pub HasNone : Text → ℕ → List Row → Type 0
 HasNone name most options = (n : ℕ) → IsFromOne most n → NamesNumber name options n → ⊥
 
--- whether the option of this name, which has no value, is there
+-- the flag of this name is set
 abbrev pub is_set : Text → List Row → Bool
 is_set name options = is_true (first_of name options)
 
--- the options of a command that were read
+-- the options of a command that was read
 abbrev pub options_in : ArgMatches → List Row
 options_in matches = rows_of (found_of matches)

@@ -1,4 +1,4 @@
--- The setup of the sessions, as the options of the command line say it (own choice).
+-- The setup of the sessions, from the options of the command line (own choice).
 use Rattle.std.specs.Prelude.{◌≡◌, ◌⊎◌, ◌||◌, ◌≤◌, ◌<◌, ℕ, List, Option, Some, None, codes, cond, min}
 use Rattle.std.specs.Str.{bytes_eq}
 use Rattle.clap.specs.Words.{Row, Text, first_of}
@@ -7,7 +7,7 @@ use Rattle.usi_arguments.specs.declared.setup.Evaluation.{Evaluation}
 use Rattle.usi_arguments.specs.declared.setup.Evaluation.TheVariants.{Plain, Hand, Exchange}
 use Rattle.usi_arguments.specs.declared.setup.SetupOptions.{SetupOptions}
 
--- the evaluation that a word names, in small letters or as the option `Eval` of USI spells it
+-- the evaluation that a word names, in small letters or as the USI option `Eval` spells it
 abbrev pub evaluation_named : Text → Option Evaluation
 evaluation_named word =
     cond (bytes_eq word (codes "plain") || bytes_eq word (codes "Plain")) (Some Plain)
@@ -32,20 +32,20 @@ NamesEvaluation options evaluation = evaluation_of options ≡ Some evaluation
 abbrev pub HasNoEvaluation : List Row → Type 0
 HasNoEvaluation options = evaluation_of options ≡ None
 
--- the depth is the number of `--depth`; where that is left out it is 3, or the greatest depth where that is less
+-- the depth is the number of `--depth`; if that is left out, it is the lesser of 3 and the greatest depth
 abbrev pub NamesDepth : List Row → ℕ → ℕ → Type 0
 NamesDepth options most depth = NamesNumber (codes "depth") options depth
     ⊎ ((first_of (codes "depth") options ≡ None) × (depth ≡ min 3 most))
 
--- it is this depth, from 1 to 16
+-- the options name this depth, from 1 to 16
 abbrev pub HasDepth : List Row → ℕ → ℕ → Type 0
 HasDepth options most depth = IsFromOne 16 depth × NamesDepth options most depth
 
--- it is no depth from 1 to 16
+-- the options name no depth from 1 to 16
 abbrev pub HasNoDepth : List Row → ℕ → Type 0
 HasNoDepth options most = (depth : ℕ) → IsFromOne 16 depth → NamesDepth options most depth → ⊥
 
--- each number of the setup lies in its range
+-- each number of the setup is in its range
 abbrev pub HasSetupRanges : SetupOptions → Type 0
 HasSetupRanges setup =
     IsFromOne 16 setup.depth × IsFromOne 16 setup.max_depth × IsFromOne 8 setup.lines
@@ -57,16 +57,16 @@ NamesSetup options setup = NamesDepth options setup.max_depth setup.depth
     × NamesNumber (codes "lines") options setup.lines
     × NamesEvaluation options setup.evaluation
 
--- they name it, and its numbers lie in their ranges
+-- the options name this setup, and its numbers are in their ranges
 abbrev pub AreSetupOptions : List Row → SetupOptions → Type 0
 AreSetupOptions options setup = HasSetupRanges setup × NamesSetup options setup
 
--- they name no setup whose numbers lie in their ranges
+-- the options name no setup with numbers in their ranges
 abbrev pub HasNoSetup : List Row → Type 0
 HasNoSetup options =
     (setup : SetupOptions) → HasSetupRanges setup → NamesSetup options setup → ⊥
 
--- the setup where no option is given
+-- the setup without options
 abbrev pub usual_setup : SetupOptions
 usual_setup = record {
   depth = 3;
@@ -75,10 +75,10 @@ usual_setup = record {
   evaluation = Plain;
 }
 
--- the sessions begin with a depth that they may search
+-- the sessions begin with a depth of at most the greatest
 abbrev pub IsInReach : SetupOptions → Type 0
 IsInReach setup = setup.depth ≤ setup.max_depth
 
--- they begin with a depth above the greatest
+-- the sessions begin with a depth above the greatest
 abbrev pub IsTooDeep : SetupOptions → Type 0
 IsTooDeep setup = setup.max_depth < setup.depth

@@ -1,4 +1,4 @@
-//! The arguments of the command line.
+//! Jobs that the command line asks for.
 ghost use Rattle.std.specs.Prelude.{◌≡◌, [], false, true, IfErr, IfNone, IfOk, IfSome, codes, map, string_bytes};
 ghost use Rattle.clap.specs.Words.{kind_of, subcommand_rows_of};
 ghost use Rattle.usi_arguments.specs.Answers.{AreHelpArguments, AreReplayArguments, AreStdioArguments, AreVersionArguments, Gives, GivesHelp, GivesReplay, GivesStdio, HasRanges, HasReach, IsAnswerTo, IsAnswerToParsed, IsAskedBy, IsHeld, IsJobIn, IsJobOf, IsMateIn, IsMovesOf, IsPerftIn, IsRefusal, IsRefusedFor, IsReplayOf, IsServeIn, IsStdioOf, KnowsEvaluation, NamesNoEvaluation, NamesNoJob, NamesNoMate, NamesNoPerft, NamesNoReplay, NamesNoServe, NamesNoStdio, has_no_setup, is_even, setup_in};
@@ -18,13 +18,13 @@ use clap::{ArgMatches, Error};
 use std::alloc::{AllocError, Global};
 use std::convert::AsStr;
 
-/// The entries of the table where the arguments name no command (own choice).
+/// The entries of the table if the arguments name no command (own choice).
 const USUAL_ENTRIES: usize = 4096;
 
-/// The most plies of a mate that may be asked for: 2 MOVES_MAX - 1 of `mate_search`.
+/// The most plies of a mate that an operator may ask for: 2 MOVES_MAX - 1 of `mate_search`.
 const PLIES_MAX: usize = 15;
 
-/// The setup where no option is given (own choice).
+/// The setup without options (own choice).
 const USUAL_SETUP: SetupOptions = SetupOptions {
     depth: 3,
     max_depth: 16,
@@ -32,7 +32,7 @@ const USUAL_SETUP: SetupOptions = SetupOptions {
     evaluation: Evaluation::Plain,
 };
 
-/// What the arguments ask for.
+/// A job that the arguments ask for.
 #[derive(Debug, PartialEq, Eq, Drop)]
 pub enum Job {
     /// One session over standard input and output, with a table of `entries` entries, 1 to
@@ -41,37 +41,37 @@ pub enum Job {
         entries: usize,
         setup: SetupOptions,
     },
-    /// A script on standard input, over this host.
+    /// A script on standard input, replayed over this host.
     Replay(HostOptions),
-    /// This host on a Unix socket at the path `socket`, and its status on one at the path `status`,
-    /// where there is one, for `turns` turns, at least 1.
+    /// This host on a Unix socket at the path `socket`, with its status on one at the path
+    /// `status`, if there is one, for `turns` turns, at least 1.
     Serve {
         socket: String,
         status: Option<String>,
         turns: u64,
         host: HostOptions,
     },
-    /// The count of sequences of `depth` legal moves, 1 to 16, from the position of a text, or from
-    /// the opening position; with `divide` also those of each first move.
+    /// The count of sequences of `depth` legal moves, 1 to 16, from the position of the SFEN, or
+    /// from the opening position; with `divide` also the count after each first move.
     Perft {
         sfen: Option<String>,
         depth: u8,
         divide: bool,
     },
-    /// The legal moves of the position of a text, or of the opening position.
+    /// The legal moves of the position of the SFEN, or of the opening position.
     Moves {
         sfen: Option<String>,
     },
-    /// The shortest mate by checks of at most `plies` plies, an odd number from 1 to 15, in the position
-    /// of a text, or in that of each line of standard input; with `line` also its main line, and with
-    /// `keys` the keys along it.
+    /// The shortest mate by checks of at most `plies` plies, an odd number from 1 to 15, in the
+    /// position of the SFEN, or in that of each line of standard input. `line` adds the main line,
+    /// and `keys` the keys along it.
     Mate {
         sfen: Option<String>,
         plies: u8,
         line: bool,
         keys: bool,
     },
-    /// The text of a help that was asked for.
+    /// The text of a help.
     Help {
         text: String,
     },
@@ -79,17 +79,17 @@ pub enum Job {
     Version,
 }
 
-/// Why the arguments name no job.
+/// The fault of arguments that name no job.
 #[derive(Debug, PartialEq, Eq, Drop)]
 pub enum ArgumentsFault {
-    /// Memory ran out.
+    /// Out of memory.
     OutOfMemory,
     /// The arguments are no command line of this program; the text says why.
     NotAccepted { text: String },
 }
 
 impl Job {
-    /// The setup of its sessions, where it has any.
+    /// The setup of the job's sessions; `None` if it has none.
     fn setup(&self) -> Option<SetupOptions>
         ensures { result ≡ setup_in self.now }
     {
@@ -104,7 +104,7 @@ impl Job {
         }
     }
 
-    /// Whether it seeks a mate in an even number of plies.
+    /// Whether the job seeks a mate in an even number of plies.
     fn is_even(&self) -> bool
         ensures { result ≡ is_even self.now }
     {
@@ -123,18 +123,24 @@ impl From<AllocError> for ArgumentsFault {
     }
 }
 
-/// Reads the arguments that follow the program's name: none or `stdio` for one session, with
-/// `--entries N` after `stdio`; `replay` for a script, with `--slots N`, `--entries N` and
-/// `--slice N`; `serve` for a Unix socket, with `--socket PATH`, which has to be there, these
-/// three, `--turns N` and `--status PATH`; after each of them `--depth N`, `--max-depth N`,
-/// `--lines N` and `--eval NAME` for the setup of the sessions; `perft` with `--depth N`, which has
-/// to be there, `--sfen SFEN` and `--divide`; `moves` with `--sfen SFEN`; `mate` with `--plies N`,
-/// `--sfen SFEN`, `--line` and `--keys`; `--help`, `-h` or `help` for help; and `--version` or `-V`
-/// for the version. A number is written in decimal digits alone, and the evaluation is `plain`, `hand`
-/// or `exchange`. Every other line is `NotAccepted`, and so is a depth above the greatest, and an even
-/// number of plies. Of several mistakes those that `clap` finds come first, then an evaluation that is
-/// not known, then a number with a sign, then the depth or the plies. The texts of help are those of
-/// `clap`, and so are those of refusals but for these four.
+/// Reads the arguments after the program's name as a job:
+///
+/// - none, or `stdio` with `--entries N`: one session;
+/// - `replay` with `--slots N`, `--entries N` and `--slice N`: a script;
+/// - `serve` with `--socket PATH`, which is required, the options of `replay`, `--turns N` and
+///   `--status PATH`: a Unix socket;
+/// - `perft` with `--depth N`, which is required, `--sfen SFEN` and `--divide`;
+/// - `moves` with `--sfen SFEN`;
+/// - `mate` with `--plies N`, `--sfen SFEN`, `--line` and `--keys`;
+/// - `--help`, `-h` or `help`: help; `--version` or `-V`: the version.
+///
+/// Commands with sessions also take their setup: `--depth N`, `--max-depth N`, `--lines N` and
+/// `--eval NAME`. A number is decimal digits alone, and an evaluation is `plain`, `hand` or
+/// `exchange`, also with a capital.
+///
+/// Any other line is `NotAccepted`, as are a depth above the greatest and an even number of plies.
+/// Mistakes that `clap` finds come first, then an unknown evaluation, a number with a sign, and the
+/// depth or the plies. Help and refusals have the texts of `clap`, except for these four.
 pub fn read_arguments<'a, S: AsStr>(
     alloc: Global,
     arguments: &'a [S],
@@ -157,8 +163,7 @@ pub fn read_arguments<'a, S: AsStr>(
     )
 }
 
-/// What is said below a refusal: how to ask for the version, where the last argument looks as if it
-/// asked.
+/// The hint below a refusal: how to ask for the version, if the last argument looks like that.
 fn pointer_for<S: AsStr>(arguments: &[S]) -> &'static str {
     match arguments.last() {
         Some(argument) if is_for_version(argument.as_str()) => FOR_THE_VERSION,
@@ -170,7 +175,7 @@ fn is_for_version(argument: &str) -> bool {
     argument == "version" || argument == "--version" || argument == "-V" || argument == "-v"
 }
 
-/// The answer to what `clap` made of the arguments; `pointer` ends the text of a refusal.
+/// The answer to the result of `clap`; `pointer` ends the text of a refusal.
 fn answer_to(
     alloc: Global,
     parsed: Result<ArgMatches<'_>, Error>,
@@ -209,7 +214,7 @@ fn refused_with(alloc: Global, text: &str) -> Result<Job, ArgumentsFault>
     })
 }
 
-/// Whether the command has no evaluation, or one that is known.
+/// Whether the command's evaluation is known, or the command has none.
 fn knows_evaluation(matches: &ArgMatches<'_>) -> bool
     ensures yes { result ≡ true → KnowsEvaluation (subcommand_rows_of matches.now) }
     ensures no { result ≡ false → NamesNoEvaluation (subcommand_rows_of matches.now) }
@@ -227,7 +232,7 @@ fn has_no_setup(name: &str) -> bool
     name == "perft" || name == "moves" || name == "mate"
 }
 
-/// The job, where the depth of its setup is not above its greatest, and its plies are odd.
+/// The job, unless its depth is above its greatest or its plies are even.
 fn held(alloc: Global, job: Job) -> Result<Job, ArgumentsFault>
     ensures { IsHeld job result }
 {
@@ -242,7 +247,7 @@ fn held(alloc: Global, job: Job) -> Result<Job, ArgumentsFault>
     }
 }
 
-/// What is said of a depth above the greatest.
+/// The refusal of a depth above the greatest.
 fn too_deep(alloc: Global, setup: SetupOptions) -> Result<String, AllocError>
     ensures { IfOk result (λ s. string_bytes s ≡ too_deep setup.depth setup.max_depth) }
 {
@@ -256,7 +261,7 @@ For more information, try '--help'.
     )
 }
 
-/// The job that the command names, where its numbers lie in their ranges.
+/// The job that the command names, if its numbers are in digits alone and in their ranges.
 fn named_job(alloc: Global, matches: &ArgMatches<'_>) -> Result<Option<Job>, AllocError>
     ensures some { IfOk result (λ named. IfSome named (IsJobIn (subcommand_rows_of matches.now))) }
     ensures if_none { IfOk result (λ job.
@@ -286,7 +291,7 @@ fn named_job(alloc: Global, matches: &ArgMatches<'_>) -> Result<Option<Job>, All
     Ok(None)
 }
 
-/// The job of arguments that name no command.
+/// The job of arguments without a command.
 fn usual_job() -> Job
     ensures { result ≡ Stdio 4096 usual_setup }
 {
@@ -376,7 +381,7 @@ fn mate_job(alloc: Global, options: &ArgMatches<'_>) -> Result<Option<Job>, Allo
     }))
 }
 
-/// The text of an option, if it has one.
+/// The text of an option; `None` if it is left out.
 fn text_if_any(
     alloc: Global,
     options: &ArgMatches<'_>,

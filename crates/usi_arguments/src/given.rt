@@ -1,4 +1,4 @@
-//! The arguments that the program was started with.
+//! The arguments of the running program.
 ghost use Rattle.std.specs.Prelude.{IfOk};
 ghost use Rattle.usi_arguments.specs.Answers.{HasRanges, HasReach};
 
@@ -7,7 +7,8 @@ use crate::unread::unread_arguments;
 use std::env;
 use std::env::Env;
 
-/// The arguments after the program's name, read as a job by `read_arguments`.
+/// The job of the arguments after the program's name, as `read_arguments` reads them. One that is
+/// not UTF-8 is `NotAccepted`.
 pub fn asked<R: Env + AllocGlobal>(rt: &R) -> Result<Job, ArgumentsFault>
     ensures ranges { IfOk result HasRanges }
     ensures reach { IfOk result HasReach }

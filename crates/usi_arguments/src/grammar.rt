@@ -1,4 +1,4 @@
-//! The command line as `clap` is told it: the commands with their options.
+//! The command line for `clap`: commands and their options.
 ghost use Rattle.std.specs.Prelude.{◌≡◌, IfOk};
 ghost use Rattle.clap.specs.Words.{App, Rule, app_of, new_app, with_rule, with_subcommand};
 ghost use Rattle.usi_arguments.specs.CommandLine.{IsCommand, IsMade, IsOption, bare_line, command_line, depth_option, divide_option, entries_option, eval_option, flag_option, mate_command, mate_plies_option, mate_position, moves_command, number_option, perft_command, plies_option, replay_command, serve_command, sfen_option, socket_command, socket_option, stdio_command, turns_option, value_option, with_host_options, with_setup_options};
@@ -27,7 +27,7 @@ pub(crate) fn command_line<'a>(alloc: Global) -> Result<Command<'a>, AllocError>
     with_command(line, mate_command(alloc))
 }
 
-/// The line with one command more, where both were made.
+/// The line with another command; a failure of either is passed on.
 fn with_command<'a>(
     line: Result<Command<'a>, AllocError>,
     command: Result<Command<'a>, AllocError>,
@@ -64,7 +64,7 @@ fn described<'a>(
         .after_long_help(after_long_help)
 }
 
-/// The command with one option more, where it was made.
+/// The command with another option; a failure of the command is passed on.
 fn with_option<'a>(
     made: Result<Command<'a>, AllocError>,
     option: Arg<'a>,
@@ -89,7 +89,7 @@ fn replay_command<'a>(alloc: Global) -> Result<Command<'a>, AllocError>
     with_setup_options(alloc, with_host_options(alloc, Ok(command)))
 }
 
-/// The command with the options of a host, where it was made.
+/// The command with the options of a host.
 fn with_host_options<'a>(
     alloc: Global,
     made: Result<Command<'a>, AllocError>,
@@ -104,7 +104,7 @@ fn with_host_options<'a>(
     )
 }
 
-/// The command with the options of the setup, where it was made.
+/// The command with the options of the setup.
 fn with_setup_options<'a>(
     alloc: Global,
     made: Result<Command<'a>, AllocError>,
@@ -160,7 +160,7 @@ fn mate_command<'a>(alloc: Global) -> Result<Command<'a>, AllocError>
     with_option(made, flag_option(alloc, "keys", help::KEYS))
 }
 
-/// `mate` with the options of a position and of its length.
+/// `mate` with the options of its position and its length.
 fn mate_position<'a>(alloc: Global) -> Result<Command<'a>, AllocError>
     ensures { IsMade mate_position result }
 {
@@ -175,7 +175,7 @@ fn mate_plies_option<'a>(alloc: Global) -> Arg<'a>
     number_option(alloc, "plies", 15, "9", help::MATE_PLIES)
 }
 
-/// The position of `mate`, which reads standard input where it is left out.
+/// The position of `mate`, which reads standard input if it is left out.
 fn sfen_or_lines_option<'a>(alloc: Global) -> Arg<'a>
     ensures { IsOption sfen_option result }
 {
@@ -202,7 +202,7 @@ fn divide_option<'a>(alloc: Global) -> Arg<'a>
     flag_option(alloc, "divide", help::DIVIDE)
 }
 
-/// The option that has no value.
+/// An option without a value.
 fn flag_option<'a>(alloc: Global, name: &'a str, help: &'a str) -> Arg<'a>
     ensures { IsOption (flag_option name.entry.now) result }
 {
@@ -237,7 +237,7 @@ fn entries_option<'a>(alloc: Global) -> Arg<'a>
     number_option(alloc, "entries", 1_000_000, "4096", help::ENTRIES)
 }
 
-/// Without a default of `clap`: where it is left out, it depends on `--max-depth`.
+/// `--depth`, which has no default in `clap`: it depends on `--max-depth`.
 fn depth_option<'a>(alloc: Global) -> Arg<'a>
     ensures { IsOption depth_option result }
 {
@@ -250,7 +250,7 @@ fn eval_option<'a>(alloc: Global) -> Arg<'a>
     value_option(alloc, "eval", "NAME", help::EVAL).default_value("plain")
 }
 
-/// The option of a number from 1 to `most`, which is `usual` where it is left out.
+/// The option of a number from 1 to `most`, with the default `usual`.
 fn number_option<'a>(
     alloc: Global,
     name: &'a str,
@@ -265,7 +265,7 @@ fn number_option<'a>(
         .default_value(usual)
 }
 
-/// The option of a value, which help calls `value`.
+/// The option of a value, named `value` in help.
 fn value_option<'a>(alloc: Global, name: &'a str, value: &'a str, help: &'a str) -> Arg<'a>
     ensures { IsOption (value_option name.entry.now) result }
 {

@@ -1,4 +1,4 @@
-//! The options that make a host.
+//! The options of a host.
 ghost use Rattle.std.specs.Prelude.{IfNone, IfSome};
 ghost use Rattle.usi_arguments.specs.Answers.{AreHostOptions, HasNoHost};
 ghost use Rattle.usi_arguments.specs.CommandLine.{options_in};
@@ -7,30 +7,30 @@ use crate::setup::{SetupOptions, setup_of};
 use crate::values::number_of;
 use clap::ArgMatches;
 
-/// The most sessions at a time that may be asked for: `SESSIONS_MAX` of `session_slots`.
+/// The most sessions at a time that an operator may ask for: `SESSIONS_MAX` of `session_slots`.
 const SLOTS_MAX: usize = 1024;
 
-/// The most entries of the table that may be asked for: `CAPACITY_MAX` of `shared_table`.
+/// The most entries of the table that an operator may ask for: `CAPACITY_MAX` of `shared_table`.
 pub(crate) const ENTRIES_MAX: usize = 1_000_000;
 
-/// The most steps of search in a round that may be asked for (own choice).
+/// The most search steps in a round that an operator may ask for (own choice).
 const STEPS_MAX: usize = 1_000_000_000;
 
-/// What an operator decides for a host.
+/// An operator's choices for a host.
 #[derive(Clone, Copy, Debug, PartialEq, Eq)]
 pub struct HostOptions {
     /// The most sessions at a time, from 1 to 1,024.
     pub slots: usize,
-    /// The entries of the table that they share, from 1 to 1,000,000.
+    /// The entries of their common table, from 1 to 1,000,000.
     pub entries: usize,
-    /// The most steps of search that a session makes in a round, from 1 to 1,000,000,000.
+    /// The most search steps of a session in a round, from 1 to 1,000,000,000.
     pub slice: u64,
     /// The setup of each session.
     pub setup: SetupOptions,
 }
 
-/// The host of the options, where its numbers are written in digits alone and lie in their ranges,
-/// and the word of its evaluation is known.
+/// The host of the options, if its numbers are in digits alone and in their ranges, and its
+/// evaluation is known.
 pub(crate) fn host_of(options: &ArgMatches<'_>) -> Option<HostOptions>
     ensures some { IfSome result (AreHostOptions (options_in options.now)) }
     ensures if_none { IfNone result (HasNoHost (options_in options.now)) }

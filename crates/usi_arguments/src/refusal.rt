@@ -1,16 +1,16 @@
-//! What the program says of arguments that name no job.
+//! Messages and exit statuses for arguments that name no job.
 ghost use Rattle.std.specs.Prelude.{◌≡◌};
 ghost use Rattle.usi_arguments.specs.Refusals.{arguments_status, complaint_of};
 
 use crate::arguments::ArgumentsFault;
 
-/// The exit status where memory ran out.
+/// The exit status if memory ran out.
 const FAULT: u8 = 1;
 
 /// The exit status of a command line that is not accepted.
 const NOT_ACCEPTED: u8 = 2;
 
-/// The status with which the program ends.
+/// The exit status of the program.
 pub fn status(fault: &ArgumentsFault) -> u8
     ensures { result ≡ arguments_status fault.now }
 {

@@ -1,4 +1,4 @@
-//! The options that make the setup of the sessions.
+//! The options of the sessions' setup.
 ghost use Rattle.std.specs.Prelude.{◌≡◌, IfNone, IfSome, min};
 ghost use Rattle.usi_arguments.specs.CommandLine.{IsFromOne, options_in};
 ghost use Rattle.usi_arguments.specs.declared.setup.Evaluation.{Evaluation};
@@ -7,41 +7,41 @@ ghost use Rattle.usi_arguments.specs.Setup.{AreSetupOptions, HasDepth, HasNoDept
 use crate::values::number_of;
 use clap::ArgMatches;
 
-/// The greatest depth that may be asked for: `DEPTH_MAX` of `usi_lines`.
+/// The greatest depth that an operator may ask for: `DEPTH_MAX` of `usi_lines`.
 pub(crate) const DEPTH_MAX: usize = 16;
 
-/// The most lines that may be asked for: `MULTI_PV_MAX` of `usi_lines`.
+/// The most lines that an operator may ask for: `MULTI_PV_MAX` of `usi_lines`.
 const LINES_MAX: usize = 8;
 
-/// The depth as a session begins, where none is asked for (own choice).
+/// The default depth of a session (own choice).
 const USUAL_DEPTH: usize = 3;
 
-/// What a position is worth where a line ends.
+/// The worth of a position at the end of a line.
 #[derive(Clone, Copy, Debug, PartialEq, Eq)]
 pub enum Evaluation {
     /// The pieces, in hand as on the board.
     Plain,
-    /// The pieces, and in hand a tenth more.
+    /// The pieces, with a tenth more in hand.
     Hand,
-    /// The pieces, as in `Plain`, once captures are settled.
+    /// The pieces, as in `Plain`, after the best exchange on one square.
     Exchange,
 }
 
-/// What an operator decides for all sessions.
+/// An operator's choices for all sessions.
 #[derive(Clone, Copy, Debug, PartialEq, Eq)]
 pub struct SetupOptions {
-    /// The depth of a search where a front end names none, from 1 to 16.
+    /// The depth of a search for which a front end names none, from 1 to 16.
     pub depth: u8,
     /// The greatest depth of any search, from 1 to 16.
     pub max_depth: u8,
-    /// How many lines a search shows where a front end names no number, from 1 to 8.
+    /// The number of lines of a search for which a front end names none, from 1 to 8.
     pub lines: u8,
-    /// The evaluation where a front end names none.
+    /// The evaluation unless a front end names one.
     pub evaluation: Evaluation,
 }
 
-/// The setup of the options, where its numbers are written in digits alone and lie in their ranges,
-/// and the word of its evaluation is known.
+/// The setup of the options, if its numbers are in digits alone and in their ranges, and its
+/// evaluation is known.
 pub(crate) fn setup_of(options: &ArgMatches<'_>) -> Option<SetupOptions>
     ensures some { IfSome result (AreSetupOptions (options_in options.now)) }
     ensures if_none { IfNone result (HasNoSetup (options_in options.now)) }
@@ -58,7 +58,7 @@ pub(crate) fn setup_of(options: &ArgMatches<'_>) -> Option<SetupOptions>
     })
 }
 
-/// The number of `--depth`; where it is left out, 3, or the greatest depth where that is less.
+/// The number of `--depth`; if it is left out, the lesser of 3 and the greatest depth.
 fn depth_of(options: &ArgMatches<'_>, most: usize) -> Option<usize>
     requires { IsFromOne 16 most }
     ensures some { IfSome result (HasDepth (options_in options.now) most) }
@@ -87,7 +87,7 @@ pub(crate) fn evaluation_of(options: &ArgMatches<'_>) -> Option<Evaluation>
     evaluation_named(options.get_str("eval")?)
 }
 
-/// The evaluation of a word, in small letters or as the option `Eval` of USI spells it.
+/// The evaluation of a word, in small letters or as the USI option `Eval` spells it.
 fn evaluation_named(word: &str) -> Option<Evaluation>
     ensures { result ≡ evaluation_named word.now }
 {

@@ -1,4 +1,4 @@
-//! What is said of arguments that could not be read.
+//! The refusal of arguments that cannot be read.
 ghost use Rattle.std.specs.Prelude.{◌≡◌};
 ghost use Rattle.usi_arguments.specs.Texts.{not_utf_8};
 ghost use Rattle.usi_arguments.specs.Answers.{Says};
@@ -7,8 +7,8 @@ use crate::arguments::ArgumentsFault;
 use std::alloc::Global;
 use std::io::ErrorKind;
 
-/// Why arguments whose reading ended with an error of this kind are refused: memory ran out, or
-/// else one of them is not UTF-8.
+/// The fault of arguments whose reading failed with an error of this kind: `OutOfMemory`, or
+/// `NotAccepted` as one of them is not UTF-8.
 pub fn unread_arguments(alloc: Global, kind: ErrorKind) -> ArgumentsFault
     ensures memory { kind ≡ ErrorKind.OutOfMemory → result ≡ ArgumentsFault.OutOfMemory }
     ensures refused { Says not_utf_8 result }

@@ -1,10 +1,11 @@
-//! The numbers and the flags that options name.
+//! The numbers and flags of options.
 ghost use Rattle.std.specs.Prelude.{◌≡◌, ◌<◌, ◌^◌, ℕ, IfNone, IfSome};
 ghost use Rattle.usi_arguments.specs.CommandLine.{HasNone, HasNumber, IsNumber, is_set, options_in};
 
 use clap::ArgMatches;
 
-/// The number that a text writes in decimal digits alone, where it is below 2 to the power 64.
+/// The number below 2 to the power 64 that a text writes in decimal digits alone. `parse` would
+/// also take a leading `+`.
 fn digits_alone(text: &str) -> Option<usize>
     ensures some { IfSome result (λ n. IsNumber text.now n) }
     ensures if_none { IfNone result ((n : ℕ) → n < 2 ^ 64 → IsNumber text.now n → ⊥) }
@@ -15,7 +16,7 @@ fn digits_alone(text: &str) -> Option<usize>
     text.parse::<usize>().ok()
 }
 
-/// The number of an option, where it is written in digits alone and lies from 1 to `most`.
+/// The number of an option, if it is in digits alone and from 1 to `most`.
 pub(crate) fn number_of(options: &ArgMatches<'_>, name: &str, most: usize) -> Option<usize>
     ensures some { IfSome result (HasNumber name.now most (options_in options.now)) }
     ensures if_none { IfNone result (HasNone name.now most (options_in options.now)) }
@@ -25,7 +26,7 @@ pub(crate) fn number_of(options: &ArgMatches<'_>, name: &str, most: usize) -> Op
     if n >= 1 && n <= most { Some(n) } else { None }
 }
 
-/// Whether an option that has no value is there.
+/// Whether an option without a value is there.
 pub(crate) fn is_set(options: &ArgMatches<'_>, name: &str) -> bool
     ensures { result ≡ is_set name.now (options_in options.now) }
 {

@@ -1,9 +1,8 @@
-//! What `--version` prints.
+//! The output of `--version`.
 ghost use Rattle.std.specs.Prelude.{◌≡◌};
 ghost use Rattle.usi_arguments.specs.Texts.{the_version};
 
-/// The name and the version of the program on one line, and then in a few words what is proved of
-/// it.
+/// The program's name and version on one line, and then a short statement of the proof.
 pub fn version_text() -> &'static str
     ensures { result.now ≡ the_version }
 {
