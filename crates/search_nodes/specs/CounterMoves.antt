@@ -1,4 +1,4 @@
--- Where what refuted a move is kept, by whose move it was, and what it put where (own choice).
+-- The index of a counter move, by side, role and destination of the move refuted (own choice).
 use Rattle.std.specs.Prelude.{ℕ, ◌+◌, ◌*◌, Option, Some, None}
 use Rattle.shogi_core.specs.declared.moves.Move.{Move}
 use Rattle.shogi_core.specs.declared.piece.Color.{Color}
@@ -9,16 +9,16 @@ use Rattle.shogi_core.specs.Position.{Shogi}
 use Rattle.shogi_core.specs.Same.{role_number}
 use Rattle.shogi_core.specs.Moves.{end_of}
 
--- the number of the first role of the other side's moves
+-- the number of roles before those of the side that moved, if this side is to move
 abbrev pub roles_before : Color → ℕ
 roles_before Black = 0
 roles_before White = 14
 
--- the number of what stands on a square
+-- the number of the role on a square, 0 if it is empty
 abbrev pub number_on : Option Piece → ℕ
 number_on None = 0
 number_on (Some piece) = role_number piece.role
 
--- the place for the move that led to the position
+-- the index of the move that led to the position
 abbrev pub place_of : Shogi → Move → ℕ
 place_of p m = (roles_before p.side + number_on (piece_at p.cells (end_of m))) * 81 + end_of m

@@ -1,4 +1,4 @@
--- Moves of the side that is not to move, as they are kept to show that a move cannot be worth enough (own choice).
+-- Threats of the opponent that stand after most moves, as a node keeps them to prune its moves (own choice).
 use Rattle.std.specs.Prelude.{◌≡◌, ◌≢◌, ◌<◌, ◌≤◌, ◌+◌, ◌+ℤ◌, ◌≤ℤ◌, ℕ, pos, Bool, true, false, Option, Some, None}
 use Rattle.std.specs.Option.{ForSome}
 use Rattle.shogi_core.specs.Bits.{has_bit}
@@ -22,89 +22,89 @@ use Rattle.search_nodes.specs.declared.threat.ThreatCandidate.{ThreatCandidate}
 use Rattle.search_nodes.specs.declared.threat.Threat.{Threat}
 use Rattle.search_nodes.specs.declared.threat.Threats.{Threats}
 
--- the piece on a threatens t in the position, promoting or not, and that gains so much
+-- the opponent's piece on `a` has a threat on `t`, promoting or not, that gains `gain`
 pub record Gains (p : Shogi) (e : Eval) (a t : ℕ) (promote : Bool) (gain : ℕ) : Type 0 where
   pub is_threat : IsThreat p a t promote
   pub gain_is : gain
       ≡ taken_gain e (piece_at p.cells t) + promotion_gain promote (piece_at p.cells a)
   pub gain_fits : gain ≤ 4000
 
--- the moves of the piece on a to the ends are threats, promoting or not
+-- each move of the piece on `a` to one of the ends is a threat
 abbrev pub AreThreatEnds : Shogi → ℕ → Bool → ℕ → Type 0
 AreThreatEnds p a promote ends =
     (t : ℕ) → t < 81 → has_bit ends t ≡ true → IsThreat p a t promote
 
--- the mask has the squares on lines with the piece on a and with its king, if that is on one
+-- if the piece on `a` is aligned with its king, the set has each square on a line with both
 abbrev pub HoldsPinning : Shogi → ℕ → ℕ → Type 0
 HoldsPinning p a squares = is_aligned_with_king p.cells (opponent_of p.side) a ≡ true → (n : ℕ)
     → n < 81 → has_bit squares n ≡ false
     → is_aligned_with_king p.cells (opponent_of p.side) n ≡ true → are_aligned a n ≡ false
 
--- the square is neither of the two, and not between them
+-- the square is neither `a` nor `t` nor between them
 pub record IsOffPath (a t n : ℕ) : Type 0 where
   pub attacker : n ≢ a
   pub target : n ≢ t
   pub way : (d : ℕ) → d < 8 → is_on_ray (direction_at d) a n ≡ true
       → is_on_ray (direction_at d) n t ≡ false
 
--- its move is a threat in the position and gains as much as is kept, and so are its squares with those between and the ones on which its piece might come to be pinned
+-- the threat stands in the position, its gain is right, and its sets have its path and the squares on which a slider might pin its piece
 pub record IsThreatIn (p : Shogi) (e : Eval) (threat : Threat) : Type 0 where
   pub gains : Gains p e threat.from threat.target threat.promote threat.gain
   pub way_is : (n : ℕ) → n < 81 → has_bit threat.way.bits n ≡ false
       → IsOffPath threat.from threat.target n
   pub line_is : HoldsPinning p threat.from threat.line.bits
 
--- its move is a threat that gains so much, if it gains anything
+-- the candidate is a threat with this gain, unless its gain is 0
 abbrev pub IsCandidateIn : Shogi → Eval → ThreatCandidate → Type 0
 IsCandidateIn p e candidate = 0 < candidate.gain → Gains p e candidate.from candidate.target candidate.promote candidate.gain
 
--- some unpinnable piece attacks the square and may go there without promotion
+-- an unpinnable piece of the opponent attacks the square and may go there without promotion
 abbrev pub IsAttacked : Shogi → ℕ → Type 0
 IsAttacked p n = (a : ℕ) × IsAttack p a n false
 
--- so is each square of the mask
+-- an unpinnable piece of the opponent attacks each square of the set
 abbrev pub AreAttacked : Shogi → ℕ → Type 0
 AreAttacked p mask = (n : ℕ) → n < 81 → has_bit mask n ≡ true → ∥ IsAttacked p n ∥₁
 
--- captures at the end of a line are not settled
+-- the evaluation does not settle captures at the end of a line
 abbrev pub LeavesCaptures : Eval → Type 0
 LeavesCaptures e = resolves_captures e ≡ false
 
--- each square of the mask is attacked, the threat is one, and no captures are settled at the end
+-- captures are not settled, each square of `takes` is attacked, and the greatest threat stands
 pub record AreThreatsIn (p : Shogi) (e : Eval) (threats : Threats) : Type 0 where
   pub plain : LeavesCaptures e
   pub takes : AreAttacked p threats.takes.bits
   pub greatest : ForSome threats.greatest (IsThreatIn p e)
 
--- threats are in the position, once they were looked for
+-- the threats, if they were computed, are true of the position
 abbrev pub AreSomeThreats : Shogi → Eval → Option Threats → Type 0
 AreSomeThreats p e threats = ForSome threats (AreThreatsIn p e)
 
--- in each position that has it, a move that puts this on the square lets its piece, the way to the target and that square be
+-- a move that puts this piece on `to` interferes neither with the threat's attacker nor with its way or target
 abbrev pub SurvivesAt : Threat → Option Piece → ℕ → Type 0
 SurvivesAt threat put to = (p : Shogi) (e : Eval) (m : Move) → IsThreatIn p e threat
     → put_by p m ≡ put → end_of m ≡ to → EndsNonInterfering p threat.from threat.target m
 
--- and so does the move, which puts this on its square and moves nothing from the target
+-- the move, which puts this piece on its destination, leaves the threat
 abbrev pub SurvivesMove : Threat → Option Piece → Move → Type 0
 SurvivesMove threat put m = (p : Shogi) (e : Eval) → IsThreatIn p e threat → put_by p m ≡ put
     → LeavesThreat p threat.from threat.target m
 
--- the threat gains so much after such a move
+-- the threat gains `gain` and survives the move
 abbrev pub GainsAfter : Option Threat → Option Piece → Move → ℕ → Type 0
 GainsAfter (Some threat) put m gain = (threat.gain ≡ gain) × SurvivesMove threat put m
 GainsAfter None put m gain = ⊥
 
--- after a move that ends on one of the squares, and puts something there that slides or not, that is so
+-- a piece put on one of the squares does not interfere with the threat; only if `slides` may it be a slider
 abbrev pub AreNonInterfering : Threat → Bool → ℕ → Type 0
 AreNonInterfering threat slides squares = (n : ℕ) (put : Option Piece) → n < 81 → has_bit squares n ≡ true
     → (is_slider put ≡ true → slides ≡ true) → SurvivesAt threat put n
 
--- after the move the other side is worth at least its material and this, with one ply left
+-- after the move, with one ply left, the opponent is worth at least its material and `gain`
 abbrev pub GainsAtLeast : Shogi → Eval → Move → ℕ → Type 0
 GainsAtLeast p e m gain =
     (material_of (after p m) e +ℤ pos gain) ≤ℤ value (after p m) e 1
 
--- if it may carry out its threats then
+-- the opponent gains at least `gain` after the move if it may carry out the threats left, and capture on its destination
 abbrev pub TakesAfter : Shogi → Eval → Move → ℕ → Type 0
 TakesAfter p e m gain = KeepsThreats p m → MayRetake p m → GainsAtLeast p e m gain

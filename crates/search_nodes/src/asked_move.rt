@@ -1,4 +1,4 @@
-//! Whether the current move of the node two plies before the end is surely not worth enough.
+//! Pruning one move at depth 2: whether it provably fails low.
 
 ghost use Rattle.std.specs.Prelude.{◌≡◌, ◌≤◌, ◌<◌, true};
 ghost use Rattle.shogi_replies.specs.Threats.{IsTaken};
@@ -16,8 +16,7 @@ use shogi_eval::taken_gain;
 use shogi_moves::Origin;
 use shogi_replies::{KnownReplies, king_takes};
 
-/// A node two plies before the end that waits for the answer of a move, with what was found of the
-/// other side's replies.
+/// A node of depth 2 that has picked a move, with what is known of the opponent's replies.
 #[derive(Drop)]
 pub(crate) struct AskedMove<'a> {
     pub frame: &'a Frame,
@@ -31,7 +30,7 @@ pub(crate) struct AskedMove<'a> {
 impl<'a> AskedMove<'a> {
     ghost use Rattle.search_nodes.specs.PreFrontier.{StaysAsked};
 
-    /// What was found of replies, with no squares to which the other side's king may go.
+    /// The replies as far as they are known, without escapes.
     #[inline(always)]
     #[tactic(auto, using(shogi_core::proofs::TargetLaws::no_bits))]
     fn known(&self) -> KnownReplies<'_>
@@ -41,8 +40,8 @@ impl<'a> AskedMove<'a> {
         self.cache.replies.at(p, Squares::none())
     }
 
-    /// Whether it is certain without making the move that the other side has a legal move after it:
-    /// one that it has where no check is given, or a step of its king out of that check.
+    /// Whether, without making the move, the opponent is sure to have a legal reply: one that
+    /// exists if no check is given, or a king move out of the check.
     fn is_answered(&mut self) -> bool
         ensures some { result ≡ true → HasReply self.old.frame.now self.old.current.now }
         ensures unchanged { StaysAsked self.old self.new }
@@ -60,8 +59,8 @@ impl<'a> AskedMove<'a> {
             .leaves_escape(self.current)
     }
 
-    /// What the move is worth at most, where the other side has a legal move after it: that move,
-    /// whichever it is, leaves it its material, or what a drop of it loses less.
+    /// An upper bound of the move's worth, if the opponent has a legal reply: any such reply keeps
+    /// the opponent's material, except for what a drop may cost.
     #[inline(always)]
     fn most_after(&self) -> i32
         ensures { HasReply self.now.frame.now self.now.current.now
@@ -71,7 +70,7 @@ impl<'a> AskedMove<'a> {
         self.frame.loss_after() - self.frame.node.score_after(self.current)
     }
 
-    /// Whether the move is not worth enough, if the other side surely gains so much after it.
+    /// Whether the move fails low if the opponent gains at least `gain` after it.
     #[inline(always)]
     fn fails_low_by(&self, gain: u32) -> bool
         requires { gain ≤ 4000 }
@@ -85,8 +84,8 @@ impl<'a> AskedMove<'a> {
         0 - node.score_after(current) - gain as i32 <= self.frame.move_alpha(current)
     }
 
-    /// What the other side gains at least by a threat after the move, or by taking what that puts on
-    /// its square, if it gives no check; 0 where nothing of that is certain.
+    /// What the opponent gains at least by a threat that the move leaves, or by capturing on its
+    /// destination, if the move gives no check; 0 if neither is certain.
     #[inline(always)]
     fn gain_after(&self) -> u32
         ensures gain { 0 < result → TakesAfter self.now.frame.now.node.position
@@ -107,7 +106,7 @@ impl<'a> AskedMove<'a> {
         gain_if_left(&threats.greatest, current, put, retake)
     }
 
-    /// Whether a threat makes the move not worth enough, if it gives no check.
+    /// Whether a threat or a recapture refutes the move, if it gives no check.
     #[inline(always)]
     fn fails_low_by_threat(&self) -> bool
         ensures { result ≡ true → IsLostWhere self.now.frame.now self.now.current.now }
@@ -119,8 +118,8 @@ impl<'a> AskedMove<'a> {
         self.fails_low_by(gain)
     }
 
-    /// Whether the other side surely takes what the move puts on its square, once its attackers were
-    /// looked for: one that nothing pins does, or its king.
+    /// Whether an unpinnable piece of the opponent, or its king, is sure to capture on the move's
+    /// destination. False until threats were looked for.
     fn is_retaken(&self) -> bool
         ensures taken { result ≡ true
             → ∥ IsTaken self.now.frame.now.node.position self.now.current.now ∥₁ }
@@ -139,8 +138,8 @@ impl<'a> AskedMove<'a> {
         king_takes(self.frame.node.as_position(), current)
     }
 
-    /// Whether it is certain without making the move that the other side has a legal move after it:
-    /// it answers, or takes what the move puts on its square.
+    /// Whether, without making the move, the opponent is sure to have a legal reply, a recapture
+    /// included.
     fn has_reply(&mut self) -> bool
         ensures some { result ≡ true → HasReply self.old.frame.now self.old.current.now }
         ensures unchanged { StaysAsked self.old self.new }
@@ -152,7 +151,7 @@ impl<'a> AskedMove<'a> {
         self.is_retaken()
     }
 
-    /// Whether the move is not worth enough, if the other side takes what it puts on its square.
+    /// Whether the move fails low if the opponent captures on its destination.
     fn fails_low_if_taken(&self) -> bool
         ensures { result ≡ true → FailsLowIfTaken self.now.frame.now self.now.current.now }
     {
@@ -162,8 +161,8 @@ impl<'a> AskedMove<'a> {
         self.fails_low_by(taken_gain(node.eval(), put))
     }
 
-    /// Whether it is certain without making the move that it is not worth enough, since it is taken
-    /// or a threat stands after it.
+    /// Whether the move provably fails low, without being made, since it is recaptured or leaves a
+    /// threat.
     fn is_lost_under_threat(&mut self) -> bool
         ensures lost { result ≡ true → IsLost self.old.frame.now self.old.current.now }
         ensures unchanged { StaysAsked self.old self.new }
@@ -183,7 +182,7 @@ impl<'a> AskedMove<'a> {
         self.known().guarantees_reply(self.current)
     }
 
-    /// Whether it is certain without making the move that it is not worth enough.
+    /// Whether the move provably fails low, without being made.
     #[inline(always)]
     pub(crate) fn is_lost(&mut self) -> bool
         ensures lost { result ≡ true → IsLost self.old.frame.now self.old.current.now }

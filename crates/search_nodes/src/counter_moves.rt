@@ -1,4 +1,4 @@
-//! The moves that last refuted others.
+//! Counter moves: the last refutations, by the move refuted.
 
 ghost use Rattle.std.specs.Prelude.{◌≡◌, ◌<◌, ◌≤◌, slice_index, slice_set};
 ghost use Rattle.shogi_core.specs.Same.{role_number};
@@ -10,14 +10,13 @@ use shogi_core::{Color, Move, Position, Role};
 /// Two sides, fourteen roles and 81 squares.
 const PLACES: usize = 2268;
 
-/// For each side, role and square the code of the move that cut off the last node to which a move
-/// of such a piece to that square led.
+/// For each side, role and destination the code of the move that last refuted such a move.
 #[derive(Clone, Copy)]
 pub struct CounterMoves {
     pub codes: [u16; PLACES],
 }
 
-/// The number of a role.
+/// The number of a role, 0 to 13.
 fn number_of(role: Role) -> usize
     ensures value { result ≡ role_number role }
     ensures range { result ≤ 13 }
@@ -25,7 +24,7 @@ fn number_of(role: Role) -> usize
     role as usize
 }
 
-/// The place for the move that led to the position.
+/// The index of the move `m` that led to `p`.
 fn place_of(p: &Position, m: &Move) -> usize
     ensures value { result ≡ place_of p.now m.now }
     ensures range { result < PLACES }
@@ -44,19 +43,19 @@ fn place_of(p: &Position, m: &Move) -> usize
 }
 
 impl CounterMoves {
-    /// None yet: in each place the code of no legal move.
+    /// No counter moves: each entry is 0, the code of no legal move.
     pub fn none() -> CounterMoves {
         CounterMoves { codes: [0; PLACES] }
     }
 
-    /// What last refuted such a move as led to the position.
+    /// The code of the move that last refuted a move like `m`, which led to `p`; 0 if none did.
     pub fn reply_to(&self, p: &Position, m: &Move) -> u16
         ensures { result ≡ slice_index self.now.codes (place_of p.now m.now) }
     {
         self.codes[place_of(p, m)]
     }
 
-    /// Takes the code of the move that refuted it.
+    /// Records `code` as the refutation of the move `m`, which led to `p`.
     pub fn keep(&mut self, p: &Position, m: &Move, code: u16)
         ensures { self.new.codes ≡ slice_set self.old.codes (place_of p.now m.now) code }
     {

@@ -1,4 +1,4 @@
-//! The move picker: in which order a node's moves are visited.
+//! The move picker: the order in which a node visits its moves.
 
 ghost use Rattle.std.specs.Prelude.{◌≡◌, ◌<◌, Some, None, IfSome, true, false};
 ghost use Rattle.shogi_core.specs.Attack.{in_check};
@@ -14,8 +14,8 @@ use shogi_core::{Kind, Move, Position, SQUARE_CODES, Squares};
 use shogi_moves::{BoardSweep, DropSweep, KnownPosition, check_info_of};
 use shogi_replies::{KnownReplies, MoveFilter};
 
-/// How far the visits of a node's moves have come: the priority moves from a place on, and what is
-/// still to come of the captures, of the quiet board moves and of the drops.
+/// The stage of a node's visits: the priority moves from an index on, then what is left of the
+/// captures, of the quiet board moves, and of the drops.
 #[derive(Clone, Copy, Debug)]
 pub enum MovePicker {
     First(PriorityMoves, usize),
@@ -25,7 +25,7 @@ pub enum MovePicker {
     Done,
 }
 
-/// The next pick of a sweep over the board.
+/// The next board move of the sweep that is no priority move.
 #[inline(always)]
 #[tactic(auto, using(crate::proofs::MatchingOthers::matching_others))]
 fn next_board(
@@ -47,7 +47,7 @@ fn next_board(
     None
 }
 
-/// The next pick of a sweep over the drops.
+/// The next drop of the sweep that is no priority move.
 #[inline(always)]
 #[tactic(auto, using(crate::proofs::MatchingOthers::matching_others))]
 fn next_drop(p: &Position, priority_moves: &PriorityMoves, sweep: &mut DropSweep) -> Option<Move>
@@ -63,7 +63,7 @@ fn next_drop(p: &Position, priority_moves: &PriorityMoves, sweep: &mut DropSweep
     None
 }
 
-/// Skips the destinations of the present piece, up to the first that is not analogous.
+/// Skips destinations of the present piece up to the first that is not analogous.
 fn skip_analogous_destinations(p: &Position, analogous: &AnalogousMoves, sweep: &mut BoardSweep)
     requires consistent { IsBoardSweep p.now false sweep.old }
     ensures consistent { IsBoardSweep p.now false sweep.new }
@@ -86,7 +86,7 @@ fn skip_analogous_destinations(p: &Position, analogous: &AnalogousMoves, sweep: 
     }
 }
 
-/// Skips the drops of the present kind, up to the first that is not analogous.
+/// Skips drops of the present kind up to the first that is not analogous.
 fn skip_analogous_drops(p: &Position, analogous: &AnalogousMoves, sweep: &mut DropSweep)
     requires consistent { IsDropSweep p.now sweep.old }
     ensures consistent { IsDropSweep p.now sweep.new }
@@ -102,7 +102,7 @@ fn skip_analogous_drops(p: &Position, analogous: &AnalogousMoves, sweep: &mut Dr
 }
 
 impl MovePicker {
-    /// The moves that a search at a depth goes through, these first.
+    /// A picker that has visited nothing; at depth 0 there is nothing to visit.
     pub(crate) fn new(depth: u8, priority_moves: PriorityMoves) -> MovePicker
         ensures leaf { depth ≡ 0 → result ≡ MovePicker.Done }
         ensures inner { 0 < depth → result ≡ MovePicker.First priority_moves 0 }
@@ -113,7 +113,7 @@ impl MovePicker {
         MovePicker::First(priority_moves, 0)
     }
 
-    /// Begins with the drops.
+    /// Begins the drops.
     fn enter_drops(
         &mut self,
         known: &KnownPosition<'_>,
@@ -137,7 +137,7 @@ impl MovePicker {
         }
     }
 
-    /// Begins with the quiet moves.
+    /// Begins the quiet board moves, or the drops if there are none.
     fn enter_quiets(
         &mut self,
         known: &KnownPosition<'_>,
@@ -158,7 +158,7 @@ impl MovePicker {
         }
     }
 
-    /// Begins with the captures.
+    /// Begins the captures, or the quiet moves if there are none.
     #[tactic(auto, using(crate::proofs::MatchingOthers::no_capture_left))]
     fn enter_captures(&mut self, p: &Position, priority_moves: PriorityMoves) -> Option<Move>
         ensures next { TakesPriorityMove p.now
@@ -176,7 +176,7 @@ impl MovePicker {
         }
     }
 
-    /// The next of the priority moves, from a place on, or else the first of the others.
+    /// The next legal priority move from index `passed` on, or the first of the other moves.
     fn next_priority_move(
         &mut self,
         p: &Position,
@@ -194,7 +194,8 @@ impl MovePicker {
         Some(m)
     }
 
-    /// The next move of the sweep that is under way, which moves on where it stands.
+    /// The next move of the sweep under way, which advances in place; `None` if the sweep has
+    /// ended.
     #[inline(always)]
     #[tactic(auto, using(crate::proofs::MatchingOthers::no_capture_left))]
     fn next_in_sweep(&mut self, p: &Position) -> Option<Move>
@@ -214,8 +215,8 @@ impl MovePicker {
         None
     }
 
-    /// Whether the moves of a sweep over the board are under way, and it is known with it that the
-    /// side to move is in check.
+    /// Whether a sweep over the board has found the side to move in check; false during other
+    /// stages. `p` serves the contract alone.
     pub(crate) fn is_checked(&self, p: &Position) -> bool
         requires consistent { IsKept p.now self.now }
         ensures { result ≡ true → in_check p.now.cells p.now.side ≡ true }
@@ -229,8 +230,8 @@ impl MovePicker {
         }
     }
 
-    /// Turns to the quiet moves where the captures are under way and none is left, or to the drops
-    /// where the quiet moves on the board are, before the first of them is looked for.
+    /// Moves on from captures to quiet moves if no capture is left, or without `capture` from quiet
+    /// board moves to drops. No move is picked, since pruning in bulk follows.
     #[inline(always)]
     #[tactic(auto, using(crate::proofs::MatchingOthers::matching_others, crate::proofs::MatchingOthers::no_capture_left))]
     pub(crate) fn turn_from(&mut self, p: &Position, capture: bool)
@@ -255,8 +256,7 @@ impl MovePicker {
         }
     }
 
-    /// Turns to the next kind of drops where those of a kind are under way and none is left;
-    /// whether there is one.
+    /// Moves on to the next kind of drops if none of the present kind is left; whether it did.
     #[tactic(auto, using(crate::proofs::MatchingOthers::matching_others))]
     pub(crate) fn turn_to_kind(&mut self, p: &Position) -> bool
         requires consistent { IsKept p.now self.old }
@@ -272,7 +272,7 @@ impl MovePicker {
         sweep.fill(p)
     }
 
-    /// The code to continue from where the moves on the board that take nothing are under way.
+    /// The code to continue from if quiet board moves are under way.
     pub(crate) fn quiets(&self) -> Option<u16>
         ensures { IfSome result (IsAtQuiets self.now) }
     {
@@ -282,8 +282,7 @@ impl MovePicker {
         }
     }
 
-    /// Skips the next moves to visit, as long as they are on the board, take nothing, the filter has them,
-    /// and the other side surely has a legal move after them.
+    /// Skips the next quiet board moves that the filter has and that guarantee a reply.
     #[tactic(auto, using(crate::proofs::MatchingOthers::passing_others))]
     pub(crate) fn skip_quiets(&mut self, replies: &KnownReplies<'_>, move_filter: &MoveFilter)
         requires consistent { IsKept replies.now.position.now self.old }
@@ -306,8 +305,7 @@ impl MovePicker {
         }
     }
 
-    /// Passes the next moves to visit, as long as they are drops of the kind that is under way on these
-    /// squares and the other side surely has a legal move after them.
+    /// Skips the next drops of the present kind that end on `squares` and guarantee a reply.
     #[tactic(auto, using(crate::proofs::MatchingOthers::passing_others))]
     pub(crate) fn skip_drops(&mut self, replies: &KnownReplies<'_>, squares: Squares)
         requires consistent { IsKept replies.now.position.now self.old }
@@ -320,7 +318,7 @@ impl MovePicker {
         }
     }
 
-    /// The code to continue from where quiet moves on the board or drops are under way.
+    /// The code to continue from if quiet board moves or drops are under way.
     pub(crate) fn quiet_code(&self) -> Option<u16>
         ensures { IfSome result (IsAtCode self.now) }
     {
@@ -331,8 +329,7 @@ impl MovePicker {
         }
     }
 
-    /// Skips the next moves to visit, as long as they are quiet moves of the present piece, or drops of
-    /// the present kind, that are analogous.
+    /// Skips the next analogous quiet moves of the present piece, or drops of the present kind.
     #[tactic(auto, using(crate::proofs::MatchingOthers::passing_others))]
     pub(crate) fn skip_analogous(&mut self, p: &Position, analogous: &AnalogousMoves)
         requires consistent { IsKept p.now self.old }
@@ -348,7 +345,7 @@ impl MovePicker {
         }
     }
 
-    /// The first move after the sweep that is under way.
+    /// The first move of a later stage.
     #[inline(never)]
     fn next_after_sweep(&mut self, p: &Position) -> Option<Move>
         requires consistent { IsKept p.now self.old }

@@ -1,4 +1,4 @@
-//! Which next moves of the node two plies before the end are pruned in bulk.
+//! Pruning in bulk at depth 2: rows of quiet moves and drops that provably fail low.
 
 ghost use Rattle.std.specs.Prelude.{◌≡◌, ◌≤◌, ◌≤ℤ◌, ◌-ℤ◌, pos, true, IfSome};
 ghost use Rattle.std.proofs.Props.{props};
@@ -18,8 +18,7 @@ use shogi_eval::{PROMOTION_GAIN_MAX, taken_gain};
 use shogi_moves::dropped;
 use shogi_replies::MoveFilter;
 
-/// A node two plies before the end that is to begin with its next move, with what was found of the
-/// other side's replies.
+/// A node of depth 2 before its next move, with what is known of the opponent's replies.
 #[derive(Drop)]
 pub(crate) struct PreFrontier<'a> {
     pub frame: &'a mut Frame,
@@ -29,7 +28,7 @@ pub(crate) struct PreFrontier<'a> {
     ghost found: { IsReplyCacheOf frame.now.node cache.now } by { Prim.hlevel props },
 }
 
-/// Whether no promotion gains more than this.
+/// Whether no promotion gains more than `most`.
 #[inline(always)]
 fn covers_promotions(most: u32) -> bool
     ensures { result ≡ true → PROMOTION_GAIN_MAX ≤ most }
@@ -40,9 +39,9 @@ fn covers_promotions(most: u32) -> bool
 impl<'a> PreFrontier<'a> {
     ghost use Rattle.search_nodes.specs.PreFrontier.{Stays, KeepsFrame};
 
-    /// The moves on the board that take nothing, of the pieces to the squares, where it is certain
-    /// without making them that they leave the other side its material less this, if no such move is
-    /// worth enough; those that promote only where no promotion is.
+    /// A filter of the quiet board moves from `pieces` to `squares`, with the escapes, if each that
+    /// leaves the opponent its material less `loss` fails low. Promotions are included only if none
+    /// gains enough to matter.
     #[inline(always)]
     fn futile_filter(
         &self,
@@ -71,8 +70,7 @@ impl<'a> PreFrontier<'a> {
         Some((filter, escapes))
     }
 
-    /// Looks for threats of the other side, and with them for what shows which moves surely have a
-    /// reply.
+    /// Finds the opponent's threats and, once they are known, which moves are sure to have a reply.
     fn look_for_threats(&mut self)
         ensures { KeepsFrame self.old self.new }
     {
@@ -82,8 +80,8 @@ impl<'a> PreFrontier<'a> {
         }
     }
 
-    /// The next moves on the board that take nothing, where it is certain without making them that
-    /// the greatest threat stands and makes no such move worth enough.
+    /// The quiet board moves that do not interfere with the greatest threat, if it refutes them
+    /// all.
     #[inline(always)]
     #[tactic(auto, using(shogi_core::proofs::TargetLaws::no_bits))]
     fn quiets_under_threat(&self, code: u16) -> Option<(MoveFilter, Squares)>
@@ -100,8 +98,8 @@ impl<'a> PreFrontier<'a> {
         self.futile_filter(code, 0 - threat.gain as i32, pieces, aside, Squares::none())
     }
 
-    /// The same, or where it is certain that the other side has a legal move, if no such move is worth
-    /// enough.
+    /// The next quiet board moves that fail low, if the opponent's material or its greatest threat
+    /// settles it.
     #[inline(always)]
     fn futile_quiets(&mut self, code: u16) -> Option<(MoveFilter, Squares)>
         ensures lost { IfSome result (λ f. AreFutileQuiets self.old.frame.now f.0 f.1.bits code) }
@@ -117,7 +115,7 @@ impl<'a> PreFrontier<'a> {
         self.quiets_under_threat(code)
     }
 
-    /// Prunes the next moves on the board that take nothing and are futile.
+    /// Prunes the next quiet board moves that fail low in bulk.
     fn prune_quiets(&mut self)
         ensures pruned { PrunesFiltered self.old.frame.now self.new.frame.now }
         ensures unchanged { Stays self.old self.new }
@@ -134,8 +132,7 @@ impl<'a> PreFrontier<'a> {
         frame.picker.skip_quiets(&known, &filter);
     }
 
-    /// Whether a drop of the kind is not worth enough that leaves the other side its material less
-    /// this.
+    /// Whether a drop of the kind fails low if it leaves the opponent its material less `loss`.
     #[inline(always)]
     fn drop_fails_low(&self, kind: Kind, code: u16, loss: i32) -> bool
         requires { IsLoss loss }
@@ -146,8 +143,7 @@ impl<'a> PreFrontier<'a> {
         frame.node.score_after_drop(kind) >= loss - move_alpha
     }
 
-    /// Squares on which a drop of the kind that gives no check is not worth enough, since it is taken
-    /// there.
+    /// Squares on which a drop of the kind that gives no check is captured, if it then fails low.
     #[inline(always)]
     #[tactic(auto, using(shogi_core::proofs::TargetLaws::no_bits))]
     fn futile_squares_if_taken(&self, kind: Kind, code: u16) -> Squares
@@ -164,7 +160,7 @@ impl<'a> PreFrontier<'a> {
         Squares::none()
     }
 
-    /// Squares on which it is not, since the greatest threat stands.
+    /// Squares on which a drop of the kind leaves the greatest threat, if it then fails low.
     #[inline(always)]
     #[tactic(auto, using(shogi_core::proofs::TargetLaws::no_bits))]
     fn futile_squares_under_threat(&self, kind: Kind, code: u16) -> Squares
@@ -183,8 +179,8 @@ impl<'a> PreFrontier<'a> {
         Squares::none()
     }
 
-    /// Squares on which the drops of the kind are not worth enough after which the other side surely
-    /// has a legal move, with the steps of its king that show that after some of them.
+    /// Squares on which drops of the kind that guarantee a reply fail low, with the escapes that
+    /// may show that reply.
     #[tactic(auto, using(shogi_core::proofs::TargetLaws::no_bits))]
     fn futile_drops(&mut self, kind: Kind, code: u16) -> (Squares, Squares)
         ensures lost { DropsFailLow self.old.frame.now kind result.0.bits result.1.bits code }
@@ -203,8 +199,8 @@ impl<'a> PreFrontier<'a> {
         )
     }
 
-    /// Prunes the next drops of the kind that is under way that are futile; whether none of that kind
-    /// is left, and those of another one are under way.
+    /// Prunes the next drops of the present kind that fail low in bulk; whether the picker moved on
+    /// to another kind.
     fn prune_kind(&mut self) -> bool
         ensures pruned { PrunesFiltered self.old.frame.now self.new.frame.now }
         ensures unchanged { Stays self.old self.new }
@@ -223,7 +219,7 @@ impl<'a> PreFrontier<'a> {
         frame.picker.turn_to_kind(frame.node.as_position())
     }
 
-    /// The same of the drops, kind after kind.
+    /// Prunes the next drops, one kind after another, until a drop has to be looked at by itself.
     fn prune_drops(&mut self)
         ensures pruned { PrunesFiltered self.old.frame.now self.new.frame.now }
         ensures unchanged { Stays self.old self.new }
@@ -235,9 +231,8 @@ impl<'a> PreFrontier<'a> {
         }
     }
 
-    /// Prunes the next moves as these do, once a move was gone through and not good enough; each set
-    /// before the first of its moves is looked for. In check few of the moves of a set are legal, and
-    /// each of these is looked at by itself.
+    /// Prunes the next moves in bulk once a move has failed low, before any of them is picked. Does
+    /// nothing in check: few moves are legal then, so each is tested by itself.
     #[inline(always)]
     pub(crate) fn prune_in_bulk(&mut self)
         ensures pruned { PrunesFiltered self.old.frame.now self.new.frame.now }

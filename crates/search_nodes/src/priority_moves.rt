@@ -1,4 +1,4 @@
-//! Priority moves: the hash move, refutation, counter move and killers, which a node visits first.
+//! Priority moves: the hash move, refutation, killers and counter move, which a node visits first.
 
 ghost use Rattle.std.specs.Prelude.{◌≡◌, ◌≤◌, [], true, false, take, IfSome, IsNone};
 ghost use Rattle.shogi_core.specs.Codes.{code_of};
@@ -10,14 +10,14 @@ ghost use Rattle.search_nodes.specs.PriorityMoves.{is_distinct, with_each, with_
 use shogi_core::{Move, Position};
 use shogi_moves::is_legal;
 
-/// How many moves may be visited first.
+/// The most priority moves of a node.
 pub const PRIORITY_MOVES_MAX: usize = 6;
 
-/// How many killers are kept of a place: moves that cut off nodes there.
+/// How many killers each frame keeps: the last moves that caused a cutoff there.
 pub const KILLERS: usize = 4;
 
-/// The killers, by their codes, the last one first, once a move has cut off one more node: one of
-/// them moves to the front, and for another move the last one goes.
+/// The killers, the last one first, after `code` caused a cutoff: a killer moves to the front,
+/// another move replaces the oldest.
 pub(crate) fn with_killer(killers: &[u16; KILLERS], code: u16) -> [u16; KILLERS]
     ensures { result ≡ with_killer killers.now code }
 {
@@ -33,7 +33,7 @@ pub(crate) fn with_killer(killers: &[u16; KILLERS], code: u16) -> [u16; KILLERS]
     [code, killers[0], killers[1], killers[2]]
 }
 
-/// Codes of moves to visit first where they are legal, in this order. None is there twice.
+/// Codes of the moves to visit first, if they are legal, in this order and without repetition.
 #[derive(Clone, Copy, Debug)]
 pub struct PriorityMoves {
     codes: [u16; PRIORITY_MOVES_MAX],
@@ -42,7 +42,7 @@ pub struct PriorityMoves {
     ghost distinct: { is_distinct (take len codes) ≡ true },
 }
 
-/// The move of the code, if that is legal.
+/// The move with the code, if it is legal.
 #[tactic(auto, using(shogi_moves::proofs::LegalLaws::listing))]
 fn legal_move_of(p: &Position, code: u16) -> Option<Move>
     ensures some { IfSome result (λ m. code_of m ≡ code) }
@@ -57,7 +57,7 @@ fn legal_move_of(p: &Position, code: u16) -> Option<Move>
 impl PriorityMoves {
     ghost use Rattle.search_nodes.specs.Order.{codes_of};
 
-    /// None.
+    /// No priority moves.
     pub fn none() -> PriorityMoves
         ensures { codes_of result ≡ [] }
     {
@@ -67,7 +67,7 @@ impl PriorityMoves {
         }
     }
 
-    /// Whether the move of the code is among them.
+    /// Whether the move with the code is a priority move.
     #[inline(always)]
     fn has(&self, code: u16) -> bool
         ensures { result ≡ is_in code (codes_of self.now) }
@@ -82,7 +82,7 @@ impl PriorityMoves {
         false
     }
 
-    /// Whether the move is among them.
+    /// Whether the move is a priority move.
     #[inline(always)]
     pub(crate) fn has_move(&self, m: &Move) -> bool
         ensures { result ≡ is_in (code_of m.now) (codes_of self.now) }
@@ -90,7 +90,7 @@ impl PriorityMoves {
         self.has(m.code())
     }
 
-    /// Adds the move of the code, where it is not among them and there is room.
+    /// Appends the code, unless it is in the list or the list is full.
     pub fn add(&mut self, code: u16)
         ensures { codes_of self.new ≡ with_priority_move (codes_of self.old) code }
     {
@@ -101,7 +101,7 @@ impl PriorityMoves {
         self.len += 1;
     }
 
-    /// Adds a move in the same way, where there is one.
+    /// Appends the move's code like `add`, if there is a move.
     pub fn add_some(&mut self, m: Option<Move>)
         ensures { codes_of self.new ≡ with_some (codes_of self.old) m }
     {
@@ -110,7 +110,7 @@ impl PriorityMoves {
         }
     }
 
-    /// Adds the moves of some codes, one after another, in the same way.
+    /// Appends each code like `add`.
     pub(crate) fn add_each(&mut self, codes: &[u16])
         ensures { codes_of self.new ≡ with_each (codes_of self.old) codes.now }
     {
@@ -119,7 +119,7 @@ impl PriorityMoves {
         }
     }
 
-    /// The next legal one from a place on, with the place after it.
+    /// The next legal priority move from index `from` on, with the index after it.
     pub(crate) fn next_legal(&self, p: &Position, from: usize) -> Option<(Move, usize)>
         ensures { IsNextPriorityMove p.now (codes_of self.now) from result }
     {

@@ -1,4 +1,4 @@
-//! What was found of the other side's replies at the node two plies before the end.
+//! What is known of the opponent's replies at a node of depth 2.
 
 ghost use Rattle.std.specs.Prelude.{◌≡◌};
 ghost use Rattle.shogi_moves.specs.Escapes.{AreEscapes};
@@ -10,23 +10,23 @@ use crate::threat::{Threats, threats_of};
 use shogi_core::{Position, Squares};
 use shogi_replies::{ReplyInfo, escape_squares};
 
-/// What was found of the other side's replies at a node, each once it was looked for. One serves all
-/// nodes of a search, since of those that are entered just the one on top has two plies left.
+/// The opponent's replies at a node of depth 2, computed when first needed. One cache serves a
+/// whole search, since only the frame on top has depth 2.
 #[derive(Clone, Copy)]
 pub struct ReplyCache {
     pub replies: ReplyInfo,
-    /// Set once the replies are those of the position.
+    /// Set once `replies` is that of the position.
     pub has_replies: bool,
-    /// Squares to which the other side's king may go.
+    /// Flight squares of the opponent's king.
     pub escapes: Option<Squares>,
-    /// Captures that the other side may make after most moves.
+    /// Captures and promotions that the opponent may make after most moves.
     pub threats: Option<Threats>,
 }
 
 impl ReplyCache {
     ghost use Rattle.search_nodes.specs.ReplyCache.{IsReplyCacheOf, StaysTrue};
 
-    /// Nothing is looked for yet in the position.
+    /// Nothing is computed yet for the position.
     pub fn unknown(p: &Position) -> ReplyCache
         ensures { (e : Eval) → IsReplyCacheOf (record { position = p.now; eval = e }) result }
     {
@@ -38,7 +38,7 @@ impl ReplyCache {
         }
     }
 
-    /// Looks for what shows which moves surely have a reply.
+    /// Computes which moves are sure to have a reply.
     pub(crate) fn look_ahead(&mut self, frame: &Frame)
         ensures { StaysTrue frame.now.node self.old self.new }
     {
@@ -48,7 +48,7 @@ impl ReplyCache {
         }
     }
 
-    /// Looks for the squares to which the other side's king may go.
+    /// Computes the flight squares of the opponent's king.
     pub(crate) fn look_for_escapes(&mut self, frame: &Frame) -> Squares
         ensures escapes { IsReplyCacheOf frame.now.node self.old
             → AreEscapes frame.now.node.position result.bits }
@@ -62,8 +62,7 @@ impl ReplyCache {
         squares
     }
 
-    /// The squares to which the other side's king may go, where they were looked for, and else
-    /// none.
+    /// The flight squares of the opponent's king, or none if they are not computed yet.
     #[inline(always)]
     #[tactic(auto, using(shogi_core::proofs::TargetLaws::no_bits))]
     pub(crate) fn known_escapes(&self) -> Squares
@@ -76,8 +75,8 @@ impl ReplyCache {
         }
     }
 
-    /// Looks for threats of the other side, once a move was gone through and not good enough or where
-    /// the material alone is not enough; before that none may be needed.
+    /// Computes the opponent's threats once a move has failed low, or if the material is below
+    /// beta. Otherwise the first move may cut off without them.
     pub(crate) fn look_for_threats(&mut self, frame: &Frame)
         ensures { StaysTrue frame.now.node self.old self.new }
     {

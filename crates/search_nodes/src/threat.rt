@@ -1,4 +1,4 @@
-//! Moves that the other side may make after most moves as well, and that gain something.
+//! Threats: gains of the opponent that stand after most moves.
 
 ghost use Rattle.std.specs.Prelude.{◌≡◌, ◌≤◌, ◌<◌, ◌^◌, ◌⊎◌, ℕ, Bool, Some, true};
 ghost use Rattle.std.specs.Option.{ForSome};
@@ -12,8 +12,8 @@ use shogi_core::{Move, Piece, Position, Square, Squares, line_mask};
 use shogi_eval::{Eval, promotion_gain, taken_gain};
 use shogi_replies::{attacks_of, king_line_mask, squares_between, unpinnable_pieces};
 
-/// A move by a piece of the side that is not to move that nothing pins, promoting or not, to a square
-/// without a piece of its side, and what it gains; none where that is 0.
+/// A move of an unpinnable piece of the opponent to a square without a piece of its side, and its
+/// gain; no move if the gain is 0.
 #[derive(Clone, Copy)]
 pub struct ThreatCandidate {
     pub gain: u32,
@@ -22,8 +22,8 @@ pub struct ThreatCandidate {
     pub promote: bool,
 }
 
-/// Such a move that gains something, its two squares with those between, and those on which a piece
-/// that slides might come to pin its piece: on lines with it and with its king.
+/// A threat with a gain. `way` has its squares and all between them, `line` those on which a new
+/// slider might pin the attacker.
 #[derive(Clone, Copy)]
 pub struct Threat {
     pub way: Squares,
@@ -34,8 +34,8 @@ pub struct Threat {
     pub promote: bool,
 }
 
-/// Squares on which some such piece takes what comes there, and such a move that gains most, where
-/// one gains something.
+/// Squares on which an unpinnable piece may capture without promotion, and a threat of the greatest
+/// gain.
 #[derive(Clone, Copy)]
 pub struct Threats {
     pub takes: Squares,
@@ -43,7 +43,7 @@ pub struct Threats {
 }
 
 impl ThreatCandidate {
-    /// None.
+    /// No candidate.
     #[inline(always)]
     fn none() -> ThreatCandidate
         ensures { result.gain ≡ 0 }
@@ -57,7 +57,7 @@ impl ThreatCandidate {
         }
     }
 
-    /// This one, or of the piece's moves to these squares, promoting or not, one that gains more.
+    /// The better one of this candidate and the piece's moves to `ends`.
     #[inline(always)]
     fn with_ends(
         self,
@@ -92,8 +92,8 @@ impl ThreatCandidate {
     }
 }
 
-/// Those of the lines of its king on which a piece that slides might come to pin what stands on the
-/// square.
+/// Squares on which a new slider might pin the opponent's piece on `from` to its king: on a line
+/// with both.
 #[inline(always)]
 fn pinning_squares(p: &Position, from: Square) -> Squares
     ensures { HoldsPinning p.now from result.bits }
@@ -107,7 +107,7 @@ fn pinning_squares(p: &Position, from: Square) -> Squares
     }
 }
 
-/// The threat, if it gains something.
+/// The candidate as a threat, if it gains something.
 #[inline(always)]
 fn threat_by(p: &Position, e: Eval, candidate: ThreatCandidate) -> Option<Threat>
     requires { IsCandidateIn p.now e candidate }
@@ -129,7 +129,7 @@ fn threat_by(p: &Position, e: Eval, candidate: ThreatCandidate) -> Option<Threat
     })
 }
 
-/// The threats of the side that is not to move; none where captures at the end are settled.
+/// The opponent's threats; `None` if the evaluation settles captures at the end of a line.
 pub(crate) fn threats_of(p: &Position, e: Eval) -> Option<Threats>
     ensures { AreSomeThreats p.now e result }
 {
@@ -154,7 +154,7 @@ pub(crate) fn threats_of(p: &Position, e: Eval) -> Option<Threats>
     })
 }
 
-/// Whether it slides.
+/// Whether there is a piece and it is a slider.
 #[inline(always)]
 pub(crate) fn slides(piece: Option<Piece>) -> bool
     ensures { result ≡ is_slider piece }
@@ -166,8 +166,8 @@ pub(crate) fn slides(piece: Option<Piece>) -> bool
 }
 
 impl Threat {
-    /// The squares on which a move lets the attacker and its way to the target be that puts something
-    /// there that slides, or does not.
+    /// Destinations on which the moved piece leaves the attacker and its way. A slider must not end
+    /// where it might pin the attacker.
     #[inline(always)]
     pub(crate) fn non_interfering_squares(&self, sliding: bool) -> Squares
         ensures { AreNonInterfering self.now sliding result.bits }
@@ -176,7 +176,7 @@ impl Threat {
         Squares::all().without(self.way | line)
     }
 
-    /// Whether a move that puts this on the square lets the attacker and its way to the target be.
+    /// Whether putting the piece on `to` leaves the attacker and its way to the target.
     #[inline(always)]
     fn is_non_interfering(&self, to: Square, put: Option<Piece>) -> bool
         ensures { result ≡ true → SurvivesAt self.now put to }
@@ -184,8 +184,8 @@ impl Threat {
         self.non_interfering_squares(slides(put)).has(to)
     }
 
-    /// Whether the move, which puts this on its square, lets the attacker, the target and the way
-    /// between them be.
+    /// Whether the move, which puts this piece on its destination, leaves the attacker, its way and
+    /// the target.
     #[inline(always)]
     fn survives(&self, m: &Move, put: Option<Piece>) -> bool
         ensures { result ≡ true → SurvivesMove self.now put m.now }
@@ -198,8 +198,8 @@ impl Threat {
     }
 }
 
-/// What the threat gains after the move, which puts this on its square, where that is more than the
-/// least and the move surely lets it stand; else the least.
+/// The threat's gain if it exceeds `least` and stands after the move, which puts this piece on its
+/// destination; else `least`.
 #[inline(always)]
 pub(crate) fn gain_if_left(threat: &Option<Threat>, m: &Move, put: Option<Piece>, least: u32) -> u32
     ensures { (result ≡ least) ⊎ GainsAfter threat.now put m.now result }

@@ -1,4 +1,4 @@
-//! What a move has to be worth to become the best one.
+//! The threshold that a move has to beat.
 
 ghost use Rattle.std.specs.Prelude.{◌≡◌, ◌≤ℤ◌};
 ghost use Rattle.minimax.specs.Window.{move_alpha, code_at};
@@ -7,7 +7,8 @@ ghost use Rattle.minimax.specs.Minimax.{negated};
 
 use shogi_core::Move;
 
-/// The best so far, and one less for a code that is less than the best move's.
+/// The best value so far, less one if the code is below the best move's, since an equal worth then
+/// suffices.
 pub(crate) fn move_alpha_at(best_value: i32, best_move: &Option<Move>, code: u16) -> i32
     requires { negated INFINITY ≤ℤ best_value }
     ensures { result ≡ move_alpha best_value (code_at best_move.now) code }
