@@ -1,4 +1,4 @@
--- What a side that has a legal move is worth at least one ply before the leaves.
+-- Lower bounds of a position's value with one ply left, for a side with a legal move.
 use Rattle.std.proofs.Common.{◌≡◌, ◌≢◌, ◌<◌, ◌-◌, ◌/◌, ◌%◌, ◌==◌, ◌+◌, ℕ, ℤ, pos, ◌-ℤ◌, ◌+ℤ◌, ◌≤ℤ◌, List, [], ◌∷◌, Bool, true, false, cond, filter, Option, Some, None, inl, inr, refl, sym, ap, ◌∙◌, arith, subst, set, get_or-set_other}
 use Rattle.std.proofs.lemmas.Int.{ints}
 use Rattle.std.proofs.lemmas.Bool.{both_ways, or_left, or_right, cond_both, eq-eqb, cases_lt}
@@ -39,11 +39,11 @@ use Rattle.minimax.specs.Minimax.{value, worth, ended, negated, if_no_move_else,
 use Rattle.minimax.proofs.MinimaxLaws.{cut}
 use Rattle.minimax.proofs.Valid.{after_valid, board_of, drop_of}
 
--- a move changes nothing in the other side's hand, so after it no drop loses more
+-- a move changes nothing in the opponent's hand, so the opponent's drops cost no more after it
 loses_after : (p : Shogi) (e : Eval) (loss : ℤ) (m : Move) → LosesAtMost p.hands (opponent_of p.side) e loss → LosesAtMost (after p m).hands (opponent_of p.side) e loss
 loses_after p e loss m h kind held = h kind (subst (λ (n : ℕ). 0 < n) (other_counts p m kind) held)
 
--- a legal move leaves its side no less than its material without that loss
+-- a legal board move, drop or code keeps its side's material, less what a drop may cost
 board_left : (q : Shogi) (e : Eval) (loss : ℤ) (from to : ℕ) (promote : Bool) → IsValid q → pos 0 ≤ℤ loss → from < 81 → to < 81 → is_legal q (Board from to promote) ≡ true → material_of (after q (Board from to promote)) e ≤ℤ negated (material_of q e -ℤ loss)
 board_left q e loss from to promote v h f t l =
     let law : material_of (after q (Board from to promote)) e ≡ pos 0 -ℤ (material_of q e +ℤ pos (taken_gain e (piece_at q.cells to) + promotion_gain promote (piece_at q.cells from))) = material_after_board q e from to promote v f t l in
@@ -66,18 +66,18 @@ reply_left q e loss code v h l i =
       | inr high ↦ move_left q e loss code _ i (drop_of code high below) (drop_left q e loss (kind_at ((code - FIRST_DROP) / 81)) ((code - FIRST_DROP) % 81) v l (omega arith))
     ]
 
--- a leaf is worth its material, or less
+-- a leaf is worth at most its material
 leaf_most : (moves : List ℕ) (v : ℤ) → negated (pos 30000) ≤ℤ v → if_no_move_else (lost_value 0) v moves ≤ℤ v
 leaf_most [] v h = omega (arith, ints)
 leaf_most (m ∷ ms) v h = omega (arith, ints)
 
--- a side is worth at depth 1 what a legal move leaves it after which nothing is settled, or more
+-- with one ply left, a side is worth at least the material after any legal move that is not settled
 value_reply : (q : Shogi) (e : Eval) (code : ℕ) → IsValid q → is_in code (legal_codes q) ≡ true → leaf_after q e code ≡ material_of (after_code q code) e → negated (material_of (after_code q code) e) ≤ℤ value q e 1
 value_reply q e code v i left =
     let leaf : ended q e code ≤ℤ leaf_after q e code = leaf_most (legal_codes (after_code q code)) (leaf_after q e code) (let b : IsBounded (leaf_after q e code) = left_bounded q e code (after_valid q code v i) in omega (arith, ints, b.least)) in
     cut q e 1 code (negated (material_of (after_code q code) e)) (omega arith) i (omega (arith, ints, left, leaf))
 
--- and where it may take a piece, its material and what that gains, or more
+-- with one ply left, a side that may capture a piece is worth at least its material and the gain
 value_taking : (q : Shogi) (e : Eval) (plain : resolves_captures e ≡ false) (a t : ℕ) (promote : Bool) (cell : Option Piece) → IsValid q → a < 81 → t < 81 → MayTake q a t promote cell → (material_of q e +ℤ pos (taken_gain e cell + promotion_gain promote (piece_at q.cells a))) ≤ℤ value q e 1
 value_taking q e plain a t promote cell v ha ht may =
     let back : move_of (code_of (Board a t promote)) ≡ Some (Board a t promote) = move_of-board a t promote ha ht in
@@ -91,19 +91,19 @@ value_taking q e plain a t promote cell v ha ht may =
 valid_after : (p : Shogi) (m : Move) → IsValid p → move_of (code_of m) ≡ Some m → is_in (code_of m) (legal_codes p) ≡ true → IsValid (after p m)
 valid_after p m v back i = subst IsValid (after_code_of p m back) (after_valid p (code_of m) v i)
 
--- after the move of the one side what stands on a square of the other is what stood there
+-- a move leaves the opponent's pieces as they are, except on its destination
 kept_at : (p : Shogi) (m : Move) (a : ℕ) → is_legal p m ≡ true → is_piece_of (opponent_of p.side) (piece_at p.cells a) ≡ true → a ≢ end_of m → piece_at (after p m).cells a ≡ piece_at p.cells a
 kept_at p (Board from to promote) a legal theirs off =
     let apart : a ≢ from = λ (same : a ≡ from). both_ways (is_piece_of (opponent_of p.side) (piece_at p.cells from)) (other_side p.side (piece_at p.cells from) (legal_own p from to promote legal)) (subst (λ (y : ℕ). is_piece_of (opponent_of p.side) (piece_at p.cells y) ≡ true) same theirs) in
     get_or-set_other (set p.cells from None) to a (piece_moved promote (piece_at p.cells from)) None off ∙ get_or-set_other p.cells from a None None apart
 kept_at p (Drop kind to) a legal theirs off = get_or-set_other p.cells to a (dropped p.side kind) None off
 
--- the attacker of a threat that the move leaves is not where it ends
+-- a move that leaves a threat does not end on its attacker
 attacker_off : (p : Shogi) (m : Move) (a t : ℕ) → LeavesThreat p a t m → a ≢ end_of m
 attacker_off p (Board from to promote) a t leaves same = leaves.1.attacker_stays (sym same)
 attacker_off p (Drop kind to) a t leaves same = leaves.attacker_stays (sym same)
 
--- a threat that stands after the move gains what it did
+-- a threat that stands after the move still gains as much
 pub threat_gain : (p : Shogi) (e : Eval) (plain : resolves_captures e ≡ false) (m : Move) (a t gain : ℕ) (promote : Bool) → IsValid p → move_of (code_of m) ≡ Some m → is_legal p m ≡ true → IsThreat p a t promote → gain ≡ taken_gain e (piece_at p.cells t) + promotion_gain promote (piece_at p.cells a) → LeavesThreat p a t m → TakesAfter p e m gain
 threat_gain p e plain m a t gain promote v back legal threat is leaves = λ keeps retakes.
     let valid : IsValid (after p m) = valid_after p m v back (legal_to_listed p m back legal) in
@@ -115,7 +115,7 @@ pub unpromoted : (cell : Option Piece) → promotion_gain false cell ≡ 0
 unpromoted None = refl
 unpromoted (Some piece) = refl
 
--- a capture of what it puts on its square gains that
+-- a capture on the move's destination gains the piece put there
 pub taken_left : (p : Shogi) (e : Eval) (plain : resolves_captures e ≡ false) (m : Move) → IsValid p → move_of (code_of m) ≡ Some m → is_legal p m ≡ true → IsTaken p m → (material_of (after p m) e +ℤ pos (taken_gain e (put_by p m))) ≤ℤ value (after p m) e 1
 taken_left p e plain m v back legal taken =
     let valid : IsValid (after p m) = valid_after p m v back (legal_to_listed p m back legal) in
@@ -123,7 +123,7 @@ taken_left p e plain m v back legal taken =
     let none : promotion_gain false (piece_at (after p m).cells taken.taker) ≡ 0 = unpromoted (piece_at (after p m).cells taken.taker) in
     omega (arith, ints, least, none)
 
--- as by an attack on the square where it ends
+-- an attack on the move's destination may capture there
 pub retaken : (p : Shogi) (m : Move) (to : ℕ) → end_of m ≡ to → MayRetake p m → IsAttacked p to → IsTaken p m
 retaken p m to ends retakes attacked =
     let attack : IsAttack p attacked.0 (end_of m) false = subst (λ (n : ℕ). IsAttack p attacked.0 n false) (sym ends) attacked.1 in
@@ -132,15 +132,15 @@ retaken p m to ends retakes attacked =
 pub retake_gain : (p : Shogi) (e : Eval) (plain : resolves_captures e ≡ false) (m : Move) (to gain : ℕ) → IsValid p → move_of (code_of m) ≡ Some m → is_legal p m ≡ true → end_of m ≡ to → IsAttacked p to → gain ≡ taken_gain e (put_by p m) → TakesAfter p e m gain
 retake_gain p e plain m to gain v back legal ends attacked is = λ keeps retakes. omega (arith, ints, taken_left p e plain m v back legal (retaken p m to ends retakes attacked), is)
 
--- ---- replies that stand
+-- ---- replies that are not settled
 
--- what is quiet is so for the evaluation
+-- `is_quiet` means one thing to the replies and to the evaluation
 same_quiet : (q : Shogi) (m : Option Move) → replies.is_quiet q m ≡ is_quiet q m
 same_quiet q (Some (Board from to promote)) = refl
 same_quiet q (Some (Drop kind to)) = refl
 same_quiet q None = refl
 
--- the first number that passes
+-- the first element of a filtered list is in the list and passes the test
 first_kept : (t : ℕ → Bool) (codes : List ℕ) (c : ℕ) (cs : List ℕ) → filter t codes ≡ c ∷ cs → (is_in c codes ≡ true) × (t c ≡ true)
 first_kept t [] c cs e = absurd (cc)
 first_kept t (x ∷ xs) c cs e =
@@ -149,7 +149,7 @@ first_kept t (x ∷ xs) c cs e =
     (λ fails is. let rest : _ = first_kept t xs c cs is in (or_right (c == x) (is_in c xs) rest.0, rest.1))
     e
 
--- nothing is settled after a move that stands
+-- a standing move is legal, and the material after it is not settled
 first_standing : (q : Shogi) (e : Eval) (c : ℕ) (cs : List ℕ) → standing_codes q e ≡ c ∷ cs → (is_in c (legal_codes q) ≡ true) × (leaf_after q e c ≡ material_of (after_code q c) e)
 first_standing q e c cs is =
     cond_both (resolves_captures e) (quiet_codes q) (legal_codes q) (λ (xs : List ℕ). xs ≡ c ∷ cs → (is_in c (legal_codes q) ≡ true) × (leaf_after q e c ≡ material_of (after_code q c) e))
@@ -157,32 +157,32 @@ first_standing q e c cs is =
     (λ plain first. (subst (λ (xs : List ℕ). is_in c xs ≡ true) (sym first) (or_left _ _ (eq-eqb c c refl)), left_plain q e c plain))
     is
 
--- some move stands if it is quiet, and any does where nothing is settled
+-- a standing move exists if a quiet one does or, unless captures are settled, any legal move
 pub standing_quiet : (q : Shogi) (e : Eval) → quiet_codes q ≢ [] → standing_codes q e ≢ []
 standing_quiet q e some = cond_both (resolves_captures e) (quiet_codes q) (legal_codes q) (λ (xs : List ℕ). xs ≢ []) (λ _. some) (λ _. quiet_legal q some)
 
 pub standing_plain : (q : Shogi) (e : Eval) → resolves_captures e ≡ false → legal_codes q ≢ [] → standing_codes q e ≢ []
 standing_plain q e plain some = subst (λ (b : Bool). cond b (quiet_codes q) (legal_codes q) ≢ []) (sym plain) some
 
--- a side that has such a move is worth its material without what a drop loses, or more
+-- with one ply left, a side with a standing move is worth at least its material, less what a drop may cost
 value_least : (q : Shogi) (e : Eval) (loss : ℤ) (codes : List ℕ) → standing_codes q e ≡ codes → IsValid q → pos 0 ≤ℤ loss → LosesAtMost q.hands q.side e loss → codes ≢ [] → (material_of q e -ℤ loss) ≤ℤ value q e 1
 value_least q e loss [] is v h l some = absurd (some refl)
 value_least q e loss (c ∷ cs) is v h l some =
     let first : (is_in c (legal_codes q) ≡ true) × (leaf_after q e c ≡ material_of (after_code q c) e) = first_standing q e c cs is in
     omega (arith, ints, reply_left q e loss c v h l first.0, value_reply q e c v first.0 first.1)
 
--- ---- what a move is worth at most two plies before the leaves
+-- ---- what a move at depth 2 is worth at most
 
--- no more than what the other side is worth at least after it, as its mover sees that
+-- a move is worth at most the negated lower bound of the position after it
 pub worth_below : (p : Shogi) (e : Eval) (d : ℕ) (m : Move) (least : ℤ) → move_of (code_of m) ≡ Some m → d ≡ 2 → least ≤ℤ value (after p m) e 1 → worth p e (d - 1) (code_of m) ≤ℤ negated least
 worth_below p e d m least back last h =
     let same : value (after_code p (code_of m)) e 1 ≡ value (after p m) e 1 = ap (λ (q : Shogi). value q e 1) (after_code_of p m back) in
     rw last (omega (arith, ints, h, same))
 
--- by its material, less what a reply may lose
+-- after the move, the opponent keeps its material, less what a drop may cost
 pub material_left : (p : Shogi) (e : Eval) (loss : ℤ) (m : Move) → IsValid p → move_of (code_of m) ≡ Some m → is_legal p m ≡ true → pos 0 ≤ℤ loss → LosesAtMost p.hands (opponent_of p.side) e loss → standing_codes (after p m) e ≢ [] → (material_of (after p m) e -ℤ loss) ≤ℤ value (after p m) e 1
 material_left p e loss m v back legal h l some = value_least (after p m) e loss (standing_codes (after p m) e) refl (valid_after p m v back (legal_to_listed p m back legal)) h (loses_after p e loss m l) some
 
--- by a threat that stands
+-- after the move, the opponent gains what a standing threat does
 pub threat_left : (p : Shogi) (e : Eval) (m : Move) (gain : ℕ) → KeepsThreats p m → MayRetake p m → TakesAfter p e m gain → (material_of (after p m) e -ℤ negated (pos gain)) ≤ℤ value (after p m) e 1
 threat_left p e m gain keeps retakes takes = omega (arith, ints, takes keeps retakes)

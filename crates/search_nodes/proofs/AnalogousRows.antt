@@ -1,4 +1,4 @@
--- Analogous moves that are passed in a row.
+-- Rows of analogous moves that a picker skips.
 use Rattle.std.proofs.Common.{◌≡◌, ◌≤◌, ◌<◌, ◌+◌, ◌-◌, ◌*◌, ◌/◌, ◌%◌, ◌≤ℤ◌, ℕ, true, false, bit_and, bit_or, ◌^◌, None, Some, Option, refl, sym, ap, ◌∙◌, arith, inl, inr}
 use Rattle.std.specs.Prelude.{is_some, not}
 use Rattle.std.proofs.lemmas.Bool.{and_parts, both_ways, or_parts}
@@ -37,19 +37,19 @@ bare : (cell : Option Piece) → not (is_some cell) ≡ true → cell ≡ None
 bare None e = refl
 bare (Some piece) e = absurd (cc)
 
--- a legal move of the kind to a square takes nothing there
+-- a legal quiet move captures nothing on its destination
 takes_nothing : (p : Shogi) (from n : ℕ) → from < 81 → n < 81 → is_matching p false (code_of (Board from n false)) ≡ true → (is_legal p (Board from n false) ≡ true) × (piece_at p.cells n ≡ None)
 takes_nothing p from n hf hn matching =
     let both = and_parts (is_legal p (Board from n false)) (matches false (captures p (Some (Board from n false)))) (sym (matching_move p false (Board from n false) (move_of-board from n false hf hn)) ∙ matching) in
     (both.0, bare (piece_at p.cells n) both.1)
 
--- what is not among the others is analogous, and there are no promotions
+-- if a destination is not among the others, it is an analogous end and no promotion
 pub among_ends : (non_promoting ends promoting others n : ℕ) → others ≡ bit_or (bit_and non_promoting (2 ^ 128 - 1 - ends)) promoting → ends < 2 ^ 128 → n < 81 → has_bit others n ≡ false → (has_bit non_promoting n ≡ true → has_bit ends n ≡ true) × (has_bit promoting n ≡ false)
 among_ends non_promoting ends promoting others n is fits h out =
     let parts = or_parts (has_bit (bit_and non_promoting (2 ^ 128 - 1 - ends)) n) (has_bit promoting n) (sym (has_bit-or (bit_and non_promoting (2 ^ 128 - 1 - ends)) promoting n) ∙ (ap (λ (m : ℕ). has_bit m n) (sym is) ∙ out)) in
     (λ set. not_uncertain non_promoting ends n fits h parts.0 set, parts.1)
 
--- those of the piece below another code are analogous
+-- the piece's destinations below a code are skipped if they are analogous
 pub analogous_destinations : (p : Shogi) (d : AnalogousMoves) (from code next non_promoting promoting : ℕ) → from < 81 → has_bit d.pieces.bits from ≡ true → KeepsBoard p false from code non_promoting promoting → code ≤ next → next ≤ from * SQUARE_CODES + SQUARE_CODES
     → ((n : ℕ) → n < 81 → code_of (Board from n false) < next → has_bit non_promoting n ≡ true → has_bit d.ends.bits n ≡ true)
     → ((n : ℕ) → n < 81 → code_of (Board from n true) < next → has_bit promoting n ≡ false)
@@ -72,7 +72,7 @@ analogous_destinations p d from code next non_promoting promoting hf piece k up 
       | inr at ↦ absurd (both_ways (has_bit promoting (c / 2 % 81)) (none (c / 2 % 81) hn (omega (arith, at.0))) at.1)
     ])
 
--- and drops of the kind
+-- drops of the kind below a code are skipped if they are analogous
 pub analogous_drops : (p : Shogi) (d : AnalogousMoves) (kind : Kind) (code next destinations : ℕ) → KeepsDrop p kind code destinations → code ≤ next → next ≤ FIRST_DROP + 81 + kind_number kind * 81
     → ((n : ℕ) → n < 81 → code_of (Drop kind n) < next → has_bit destinations n ≡ true → has_bit (drops_of d.drops kind).bits n ≡ true) → IsSkipped (IsAnalogousFrom p d code) (matching_from p false code) (matching_from p false next)
 analogous_drops p d kind code next destinations k up high among =
@@ -97,7 +97,7 @@ pub deep : (f : Frame) → PrunesAnalogous f → 0 < f.depth
 deep f (inl three) = omega (arith, three)
 deep f (inr four) = omega (arith, four)
 
--- analogous moves that are passed leave what is known
+-- skipping analogous moves keeps what is known of a node
 pub analogous_known : (f : Frame) (d : AnalogousMoves) (first : ℕ) (picker : MovePicker) → f.state ≡ Expanding → PrunesAnalogous f → AreAnalogous f.node.position f.node.eval f.depth d → d.most ≤ℤ move_alpha f.best_value (code_at f.best_move) first
     → IsSkipped (IsAnalogousFrom f.node.position d first) (todo f.node.position f.picker) (todo f.node.position picker) → IsKnownWhile f.node.position f.node.eval f.depth f.alpha f.beta f.best_value (code_at f.best_move) (todo f.node.position picker) f.state
 analogous_known f d first picker next there analogous low passed = skipped_known f (IsAnalogousFrom f.node.position d first) picker next

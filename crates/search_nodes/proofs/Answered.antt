@@ -14,13 +14,13 @@ use Rattle.search_nodes.specs.Frames.{IsConclusiveAfter, IsTrueAfter, move_alpha
 use Rattle.search_nodes.specs.Visits.{IsCurrent}
 use Rattle.search_nodes.proofs.Nodes.{waits}
 
--- what a child's value says of its move
+-- the child's value gives the move's worth
 pub record IsWorth (f : Frame) (m : Move) (r : ℤ) : Type 0 where
   pub is : worth_of f m ≡ pos 0 -ℤ r
   pub least : lost_value SEARCH_DEPTH_MAX ≤ℤ r
   pub most : r ≤ℤ negated (lost_value SEARCH_DEPTH_MAX)
 
--- the value of a child lies within bounds
+-- a child's value is within the bounds of its depth
 child_within : (f : Frame) (m : Move) → IsCurrent f.state m → Within (f.depth - 1) (value (position_after f m) f.node.eval (f.depth - 1))
 child_within f m at = value_within (f.depth - 1) (position_after f m) f.node.eval (after_valid f.node.position (code_of m) f.valid (waits _ _ _ _ _ _ _ _ _ _ at f.known).is_listed)
 

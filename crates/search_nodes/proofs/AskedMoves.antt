@@ -1,4 +1,4 @@
--- The current move of a node, and what it is worth at most two plies before the end.
+-- The current move of a node of depth 2, and what it is worth.
 use Rattle.std.proofs.Common.{◌≡◌, pos, ◌-ℤ◌, ◌≤ℤ◌, Some, true, subst}
 use Rattle.shogi_core.specs.declared.moves.Move.{Move}
 use Rattle.shogi_core.specs.Codes.{code_of, move_of}
@@ -14,7 +14,7 @@ use Rattle.search_nodes.specs.declared.frame.Frame.{Frame}
 use Rattle.search_nodes.specs.declared.frame.NodeState.TheVariants.{AwaitingChild}
 use Rattle.search_nodes.proofs.Nodes.{asked, waits}
 
--- it is legal, and the material after it is within its bounds
+-- the current move is legal, and the material after it is within its bounds
 pub record IsMove (f : Frame) (m : Move) : Type 0 where
   pub legal : is_legal f.node.position m ≡ true
   pub least : (pos 0 -ℤ pos POINTS_MAX) ≤ℤ material_of (after f.node.position m) f.node.eval

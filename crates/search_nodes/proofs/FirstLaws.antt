@@ -1,4 +1,4 @@
--- The moves that a node visits first: none of them twice, and which codes no legal move has.
+-- Priority moves have no code twice, and codes past the last move's are never legal.
 use Rattle.std.proofs.Common.{◌≡◌, ◌≤◌, ◌<◌, ◌+◌, ℕ, List, [], ◌∷◌, ◌++◌, length, take, set, true, false, not, sym, refl, arith, subst, inl, inr}
 use Rattle.std.proofs.lemmas.Bool.{cases_Bool, and_from, and_parts, not_from_true, not_from_false, eqb-true, eq-eqb}
 use Rattle.std.proofs.lemmas.List.{take_more_set}
@@ -10,7 +10,7 @@ use Rattle.shogi_moves.proofs.LegalLaws.{legal_in, legal_code_below}
 use Rattle.search_nodes.specs.PriorityMoves.{is_distinct}
 use Rattle.search_nodes.proofs.MatchingOthers.{in_head, in_tail, in_cases, is_in-append_cases}
 
--- a number behind others is none of them
+-- a number other than those of a list is not in the list with it appended
 not_behind : (m code : ℕ) (codes : List ℕ) → is_in m codes ≡ false → is_in code (m ∷ codes) ≡ false → is_in m (codes ++ code ∷ []) ≡ false
 not_behind m code codes out other = elim (cases_Bool (is_in m (codes ++ code ∷ []))) [
   | inl i ↦ is_in-append_cases m codes (code ∷ []) (is_in m (codes ++ code ∷ []) ≡ false)
@@ -20,7 +20,7 @@ not_behind m code codes out other = elim (cases_Bool (is_in m (codes ++ code ∷
   | inr o ↦ o
 ]
 
--- with one more that is none of them no number is there twice
+-- appending a new number to a distinct list keeps the list distinct
 distinct_with : (codes : List ℕ) (code : ℕ) → is_distinct codes ≡ true → is_in code codes ≡ false → is_distinct (codes ++ code ∷ []) ≡ true
 distinct_with [] code d out = refl
 distinct_with (m ∷ codes) code d out =
@@ -32,6 +32,6 @@ distinct_with (m ∷ codes) code d out =
 pub added : (codes : List ℕ) (len code : ℕ) → len < length codes → is_distinct (take len codes) ≡ true → is_in code (take len codes) ≡ false → is_distinct (take (len + 1) (set codes len code)) ≡ true
 added codes len code h d out = subst (λ (xs : List ℕ). is_distinct xs ≡ true) (sym (take_more_set codes len code h)) (distinct_with (take len codes) code d out)
 
--- what is the code of no move is that of no legal one
+-- a code past the last move's is not legal
 pub no_move_legal : (p : Shogi) (code : ℕ) → MOVE_CODE_COUNT ≤ code → is_in code (legal_codes p) ≡ false
 no_move_legal p code h = elim (cases_Bool (is_in code (legal_codes p))) [ inl i ↦ (let below : code < MOVE_CODE_COUNT = legal_code_below p code (legal_in p 0 code i) in absurd (omega arith)) | inr o ↦ o ]

@@ -1,4 +1,4 @@
--- The visits of a node's moves are its moves, in another order.
+-- The visits of a node are a permutation of its legal moves.
 use Rattle.std.proofs.Common.{◌≡◌, ◌<◌, ◌≤◌, ◌+◌, length, ℕ, List, [], ◌∷◌, ◌++◌, ◌⊎◌, Bool, true, false, ◌==◌, filter, not, refl, ap, ◌∙◌, sym, arith, subst, inl, inr}
 use Rattle.std.specs.Prelude.{cond, ◌&&◌}
 use Rattle.std.specs.List.{sum_by}
@@ -15,7 +15,7 @@ use Rattle.shogi_moves.proofs.SweepLaws.{no_captures}
 use Rattle.search_nodes.specs.PriorityMoves.{is_distinct}
 use Rattle.search_nodes.specs.Order.{matches_other, matching_others_from}
 
--- a test of two parts keeps what the second keeps of what the first keeps
+-- filtering by kind and then by priority is filtering by both
 filter-both : (p : Shogi) (priority_moves : List ℕ) (capture : Bool) (xs : List ℕ) → filter (matches_other p priority_moves capture) xs ≡ filter (λ n. not (is_in n priority_moves)) (filter (matches_kind p capture) xs)
 filter-both p priority_moves capture [] = refl
 filter-both p priority_moves capture (m ∷ xs) = elim (cases_Bool (matches_kind p capture m)) [
@@ -31,7 +31,7 @@ filter-both p priority_moves capture (m ∷ xs) = elim (cases_Bool (matches_kind
       ∙ ap (filter (λ n. not (is_in n priority_moves))) (sym gone))
 ]
 
--- the next one that matches is a pick, or it is one of the first moves and is passed, or there is none
+-- the next move of the kind is picked if it is no priority move, and passed if it is; with none left, none is picked
 pub other-found : (p : Shogi) (priority_moves : List ℕ) (capture : Bool) (m : ℕ) (xs rest : List ℕ) → filter (matches_kind p capture) xs ≡ m ∷ filter (matches_kind p capture) rest → is_in m priority_moves ≡ false → filter (matches_other p priority_moves capture) xs ≡ m ∷ filter (matches_other p priority_moves capture) rest
 other-found p priority_moves capture m xs rest e h =
     filter-both p priority_moves capture xs ∙ ap (filter (λ n. not (is_in n priority_moves))) e ∙ cond-true _ _ _ (ap not h) ∙ ap (λ (ys : List ℕ). m ∷ ys) (sym (filter-both p priority_moves capture rest))
@@ -43,15 +43,15 @@ other-passed p priority_moves capture m xs rest e h =
 pub other-none : (p : Shogi) (priority_moves : List ℕ) (capture : Bool) (xs : List ℕ) → filter (matches_kind p capture) xs ≡ [] → filter (matches_other p priority_moves capture) xs ≡ []
 other-none p priority_moves capture xs e = filter-both p priority_moves capture xs ∙ ap (filter (λ n. not (is_in n priority_moves))) e
 
--- with each one that matches fewer are left
+-- each move taken shortens the list
 pub fewer_left : (left rest : List ℕ) (m : ℕ) → left ≡ m ∷ rest → length rest < length left
 fewer_left left rest m e = subst (λ (xs : List ℕ). length rest < length xs) (sym e) (omega arith)
 
--- what matches from one code on as from another does so without the first moves
+-- lists that have equal moves of a kind have equal ones without the priority moves too
 pub other-same : (p : Shogi) (priority_moves : List ℕ) (capture : Bool) (xs ys : List ℕ) → filter (matches_kind p capture) xs ≡ filter (matches_kind p capture) ys → filter (matches_other p priority_moves capture) xs ≡ filter (matches_other p priority_moves capture) ys
 other-same p priority_moves capture xs ys e = filter-both p priority_moves capture xs ∙ ap (filter (λ n. not (is_in n priority_moves))) e ∙ sym (filter-both p priority_moves capture ys)
 
--- what is passed of a list is passed of what a test keeps of it
+-- what is skipped in a list is skipped in a filtered list too
 passed_none : (fact : ℕ → Type 0) (xs : List ℕ) → IsSkipped fact xs xs
 passed_none fact [] = refl
 passed_none fact (m ∷ xs) = inl refl
@@ -72,7 +72,7 @@ passed_others fact p priority_moves capture first code h =
 
 pub ruleset passing_others = (passed_others)
 
--- drops take nothing
+-- no drop is a capture
 pub no_drop_taken : (p : Shogi) (priority_moves : List ℕ) → matching_others_from p priority_moves true FIRST_DROP ≡ []
 no_drop_taken p priority_moves = other-none p priority_moves true (legal_from p FIRST_DROP) (no_captures p)
 
@@ -129,7 +129,7 @@ is_in-filter t n (m ∷ xs) p h =
       | inr e ↦ cond_both (t m) (m ∷ filter t xs) (filter t xs) (λ (ys : List ℕ). is_in n ys ≡ true) (λ _. in_tail n m (filter t xs) (is_in-filter t n xs p e)) (λ _. is_in-filter t n xs p e)
     ]
 
--- two tests that no move passes both of
+-- two tests exclude each other
 abbrev pub AreApart : (ℕ → Bool) → (ℕ → Bool) → Type 0
 AreApart a b = (n : ℕ) → a n ≡ true → b n ≡ true → ⊥
 
@@ -143,7 +143,7 @@ filter_sum g t m xs P a b =
       | inr h ↦ subst P (sym (ap (sum_by g) (cond-false (t m) (m ∷ filter t xs) (filter t xs) h))) (b h)
     ]
 
--- a test that keeps less leaves a lesser sum
+-- a stricter test keeps a sum no greater
 filter_fewer : (g : ℕ → ℕ) (t u : ℕ → Bool) → ((n : ℕ) → t n ≡ true → u n ≡ true) → (xs : List ℕ) → sum_by g (filter t xs) ≤ sum_by g (filter u xs)
 filter_fewer g t u tu [] = omega arith
 filter_fewer g t u tu (m ∷ xs) =
@@ -152,7 +152,7 @@ filter_fewer g t u tu (m ∷ xs) =
     (λ p. filter_sum g u m xs (λ y. g m + sum_by g (filter t xs) ≤ y) (λ _. omega arith) (λ no. (let yes : u m ≡ true = tu m p in absurd (cc))))
     (λ _. filter_sum g u m xs (λ y. sum_by g (filter t xs) ≤ y) (λ _. omega arith) (λ _. omega arith))
 
--- and one that drops a number of the list besides, a sum that is less by that
+-- a stricter test that also drops an element of the list keeps a sum that is less by that element
 filter_one_fewer : (g : ℕ → ℕ) (t u : ℕ → Bool) (f : ℕ) → ((n : ℕ) → t n ≡ true → u n ≡ true) → t f ≡ false → u f ≡ true → (xs : List ℕ) → is_in f xs ≡ true → g f + sum_by g (filter t xs) ≤ sum_by g (filter u xs)
 filter_one_fewer g t u f tu tf uf [] i = absurd (cc)
 filter_one_fewer g t u f tu tf uf (m ∷ xs) i =
@@ -171,7 +171,7 @@ filter_one_fewer g t u f tu tf uf (m ∷ xs) i =
           (λ _. filter_sum g u m xs (λ y. g f + sum_by g (filter t xs) ≤ y) (λ _. omega arith) (λ _. omega arith)))
     ]
 
--- the numbers of the one list that are in the other, and those of the other that are not in the one, are no more than the other
+-- the sum over the elements of `fs` in `xs`, and of `xs` not in `fs`, is at most that over `xs`
 priority_moves_apart : (g : ℕ → ℕ) (fs : List ℕ) → is_distinct fs ≡ true → (xs : List ℕ) → sum_by g (filter (λ n. is_in n xs) fs) + sum_by g (filter (λ n. not (is_in n fs)) xs) ≤ sum_by g xs
 priority_moves_apart g [] distinct xs = omega (arith, filter_fewer g (λ n. not (is_in n [])) (λ n. true) (λ n _. refl) xs, filter_all xs)
   where
@@ -188,7 +188,7 @@ priority_moves_apart g (f ∷ fs) distinct xs =
     (λ i. (let less : g f + sum_by g (filter t xs) ≤ sum_by g (filter u xs) = filter_one_fewer g t u f tu (not_from_true _ (in_head f f fs (eq-eqb f f refl))) parts.0 xs i in omega arith))
     (λ _. (let less : sum_by g (filter t xs) ≤ sum_by g (filter u xs) = filter_fewer g t u tu xs in omega arith))
 
--- what two tests apart keep of what a third keeps is no more than that
+-- the sums over what two exclusive tests keep are at most the sum over the list
 two_among : (g : ℕ → ℕ) (a b t : ℕ → Bool) → AreApart a b → (xs : List ℕ) → sum_by g (filter (λ n. a n && t n) xs) + sum_by g (filter (λ n. b n && t n) xs) ≤ sum_by g (filter t xs)
 two_among g a b t apart [] = omega arith
 two_among g a b t apart (m ∷ xs) =
@@ -203,6 +203,6 @@ two_among g a b t apart (m ∷ xs) =
     (λ q. filter_sum g t m xs (λ z. sum_by g (filter at xs) + (g m + sum_by g (filter bt xs)) ≤ z) (λ _. omega arith) (λ no. (let yes : t m ≡ true = (and_parts (b m) (t m) q).1 in absurd (cc))))
     (λ _. filter_sum g t m xs (λ z. sum_by g (filter at xs) + sum_by g (filter bt xs) ≤ z) (λ _. omega arith) (λ _. omega arith)))
 
--- the first ones of a list, and what two tests apart keep of the others
+-- the priority moves and the two kinds of other moves sum to at most all legal moves
 pub priority_move_parts : (g : ℕ → ℕ) (a b : ℕ → Bool) → AreApart a b → (fs : List ℕ) → is_distinct fs ≡ true → (xs : List ℕ) → sum_by g (filter (λ n. is_in n xs) fs) + (sum_by g (filter (λ n. a n && not (is_in n fs)) xs) + sum_by g (filter (λ n. b n && not (is_in n fs)) xs)) ≤ sum_by g xs
 priority_move_parts g a b apart fs distinct xs = omega (arith, priority_moves_apart g fs distinct xs, two_among g a b (λ n. not (is_in n fs)) apart xs)

@@ -1,4 +1,4 @@
--- The visits of a node begin with all its moves, each of them once.
+-- At the start a node has all its moves to visit, each once.
 use Rattle.std.proofs.Common.{◌≡◌, ◌≤◌, ℕ, ℤ, List, ◌++◌, Bool, true, false, not, None, filter, refl, arith, inl, inr}
 use Rattle.std.proofs.lemmas.List.Sums.{sum_by-append}
 use Rattle.std.proofs.lemmas.Bool.{cases_Bool, and_from, not_from_true, not_from_false}
@@ -15,7 +15,7 @@ use Rattle.minimax.specs.Window.{IsCovered}
 use Rattle.search_nodes.specs.Order.{codes_of, matches_other, todo}
 use Rattle.search_nodes.proofs.MatchingOthers.{AreApart, priority_move_parts, is_in-append_left, is_in-append_right, is_in-append_cases, is_in-filter, is_in-filter_from, is_in-filter_kept}
 
--- no move is both a capture and none
+-- no move is both a capture and not
 kinds_apart : (p : Shogi) → AreApart (matches_kind p true) (matches_kind p false)
 kinds_apart p n a b =
     let x : is_capture p n ≡ true = a in
@@ -23,7 +23,7 @@ kinds_apart p n a b =
     let z : not (is_capture p n) ≡ false = not_from_true _ x in
     cc
 
--- a move that is not one of the first ones is a capture or one of the rest
+-- a legal move that is no priority move is a capture or one of the other moves
 in_parts : (p : Shogi) (priority_moves : List ℕ) (n : ℕ) → is_in n (legal_codes p) ≡ true → is_in n priority_moves ≡ false → is_in n (filter (matches_other p priority_moves true) (legal_codes p) ++ filter (matches_other p priority_moves false) (legal_codes p)) ≡ true
 in_parts p priority_moves n i o =
     let ne : not (is_in n priority_moves) ≡ true = not_from_false _ o in
@@ -61,7 +61,7 @@ whole p d f =
           omega (arith, priority_move_parts g (matches_kind p true) (matches_kind p false) (kinds_apart p) priority_moves f.distinct (legal_codes p), sum_by-append g (filter legal priority_moves) (A ++ B), sum_by-append g A B);
     }
 
--- at the start of the visits no move is answered
+-- at the start of the visits no move is searched
 pub whole_covered : (p : Shogi) (d : ℕ) (picker : MovePicker) (f : ℕ → ℤ) (alpha : ℤ) → IsWhole p d picker → IsCovered f (legal_codes p) (todo p picker) alpha alpha None
 whole_covered p d picker f alpha w = record {
   among = w.among;

@@ -1,4 +1,4 @@
--- Moves that are passed in a row.
+-- Rows of moves that are skipped since they fail low.
 use Rattle.std.proofs.Common.{◌≡◌, ◌≢◌, ◌<◌, ◌≤◌, ◌+◌, ◌-◌, ◌*◌, ℕ, ℤ, ◌≤ℤ◌, List, [], ◌∷◌, true, inl, inr, Bool, Option, Some, None, refl, sym, ap, ◌∙◌, arith, subst, ◌/◌, ◌%◌, ◌+ℤ◌, false, pos, ◌-ℤ◌}
 use Rattle.std.specs.Prelude.{not, is_some}
 use Rattle.std.proofs.lemmas.Bool.{and_parts, cases_eq}
@@ -43,7 +43,7 @@ use Rattle.minimax.proofs.Cover.{IsCovered-skip}
 use Rattle.search_nodes.proofs.Ahead.{unpromoted, worth_below}
 use Rattle.minimax.proofs.MinimaxLaws.{sum_of_tree_sizes-next}
 
--- moves that are all worth no more than their threshold
+-- skipping moves that fail low keeps the node covered
 pub covered_passed : (f : ℕ → ℤ) (fact : ℕ → Type 0) (all codes left : List ℕ) (alpha best_value : ℤ) (b : Option ℕ) → IsSkipped fact codes left → ((c : ℕ) → fact c → f c ≤ℤ move_alpha best_value b c) → IsCovered f all codes alpha best_value b → IsCovered f all left alpha best_value b
 covered_passed f fact all [] left alpha best_value b p low h = subst (λ (xs : List ℕ). IsCovered f all xs alpha best_value b) p h
 covered_passed f fact all (c ∷ codes) left alpha best_value b p low h = elim p [
@@ -51,7 +51,7 @@ covered_passed f fact all (c ∷ codes) left alpha best_value b p low h = elim p
   | inr more ↦ covered_passed f fact all codes left alpha best_value b more.1 low (IsCovered-skip f all codes alpha best_value b c h (low c more.0))
 ]
 
--- with each of them its whole tree goes
+-- skipping moves does not raise the sum over their trees
 sum_passed : (p : Shogi) (d : ℕ) (fact : ℕ → Type 0) (codes left : List ℕ) → IsSkipped fact codes left → sum_of_tree_sizes p d left ≤ sum_of_tree_sizes p d codes
 sum_passed p d fact [] left h = omega (arith, ap (sum_of_tree_sizes p d) h)
 sum_passed p d fact (c ∷ codes) left h = elim h [
@@ -59,19 +59,19 @@ sum_passed p d fact (c ∷ codes) left h = elim h [
   | inr more ↦ omega (arith, sum_passed p d fact codes left more.1, sum_of_tree_sizes-next p d c (after_code p c) (c ∷ codes) codes refl refl)
 ]
 
--- a threshold rises with the code
+-- the threshold rises with the code
 pub threshold_rises : (best_value : ℤ) (b : Option ℕ) (first c : ℕ) → first ≤ c → move_alpha best_value b first ≤ℤ move_alpha best_value b c
 threshold_rises best_value None first c up = omega (arith, ints)
 threshold_rises best_value (Some b) first c up = grind (arith, ints, nat_tests)
 
--- a move that leaves such a reply is certain
+-- a code that leaves a reply is a move that guarantees one
 guaranteed_move : (p : Shogi) (escapes c : ℕ) (m : Move) → after_code p c ≡ after p m → LeavesReply p escapes c → GuaranteesReply p escapes m
 guaranteed_move p escapes c m made leaves = (
   λ _. subst (λ (q : Shogi). quiet_codes q ≢ []) made leaves.replied,
   λ none _. subst (λ (q : Shogi). in_check q.cells (opponent_of p.side) ≡ false) made (leaves.unchecked none),
 )
 
--- the move of such a code
+-- the drop with the code, which guarantees a reply
 pub record IsDropAt (p : Shogi) (kind : Kind) (squares escapes c to : ℕ) : Type 0 where
   pub fits : to < 81
   pub is : c ≡ code_of (Drop kind to)
@@ -93,7 +93,7 @@ drop_at p kind squares escapes first c k =
       guaranteed = guaranteed_move p escapes c (Drop kind to) (ap (after_code p) is ∙ after_code_of p (Drop kind to) back) k.leaves;
     }
 
--- a drop is worth no more than it leaves
+-- a drop fails low if the opponent's material after it, less `loss`, suffices for that
 pub drop_worth : (f : Frame) (kind : Kind) (squares escapes first c to : ℕ) (loss : ℤ) → f.depth ≡ 2 → DropFailsLow f kind first loss → first ≤ c → IsDropAt f.node.position kind squares escapes c to → LeavesAtLeast f loss (Drop kind to)
     → worth f.node.position f.node.eval (f.depth - 1) c ≤ℤ move_alpha f.best_value (code_at f.best_move) c
 drop_worth f kind squares escapes first c to loss last short above at leaves =
@@ -102,12 +102,12 @@ drop_worth f kind squares escapes first c to loss last short above at leaves =
     let up : move_alpha f.best_value (code_at f.best_move) first ≤ℤ move_alpha f.best_value (code_at f.best_move) c = threshold_rises f.best_value (code_at f.best_move) first c above in
     omega (arith, ints, most, same, up, short to at.fits at.legal)
 
--- no promotion gains more than that of a pawn
+-- no promotion gains more than the maximum
 promotion_within : (cell : Option Piece) → promotion_gain true cell ≤ PROMOTION_GAIN_MAX
 promotion_within None = omega arith
 promotion_within (Some piece) = omega (arith, roles.promotion_gain piece.role, roles.promotion_range piece.role)
 
--- a move on the board gains what it takes and what its promotion adds
+-- a board move is worth at most the material with its gain and `loss`
 gain_worth : (p : Shogi) (e : Eval) (d c from to : ℕ) (promote : Bool) (loss : ℤ) → IsValid p → d ≡ 2 → from < 81 → to < 81 → c ≡ code_of (Board from to promote) → is_legal p (Board from to promote) ≡ true → (material_of (after p (Board from to promote)) e -ℤ loss) ≤ℤ value (after p (Board from to promote)) e 1
     → worth p e (d - 1) c ≤ℤ (material_of p e +ℤ pos (taken_gain e (piece_at p.cells to) + promotion_gain promote (piece_at p.cells from)) +ℤ loss)
 gain_worth p e d c from to promote loss valid last from_fits to_fits is legal leaves =
@@ -120,7 +120,7 @@ nothing_taken : (e : Eval) (cell : Option Piece) → not (is_some cell) ≡ true
 nothing_taken e None h = refl
 nothing_taken e (Some piece) h = cc
 
--- a move that takes nothing is worth no more than it leaves, with what promotion adds
+-- a quiet board move is worth at most the material with `most` for a promotion, and `loss`
 quiet_at : (f : Frame) (move_filter : MoveFilter) (escapes first c most from to : ℕ) (promote : Bool) (loss : ℤ) → f.depth ≡ 2 → MovesLeave f loss move_filter.pieces.bits move_filter.squares.bits escapes → IsGuaranteedMove f.node.position false move_filter escapes first c → from < 81 → to < 81 → c ≡ code_of (Board from to promote) → has_bit move_filter.pieces.bits from ≡ true → has_bit move_filter.squares.bits to ≡ true → promotion_gain promote (piece_at f.node.position.cells from) ≤ most
     → worth f.node.position f.node.eval (f.depth - 1) c ≤ℤ (material_of f.node.position f.node.eval +ℤ pos most +ℤ loss)
 quiet_at f move_filter escapes first c most from to promote loss last leave k from_fits to_fits is piece set more =
@@ -144,11 +144,11 @@ quiet_worth f move_filter escapes first c most loss last leave within k =
       | inr odd ↦ quiet_at f move_filter escapes first c most from to true loss last leave k from_fits to_fits (omega (arith, odd)) k.piece k.end (omega (arith, within (k.promotes (omega (arith, odd))), promotion_within (piece_at f.node.position.cells from)))
     ]
 
--- what is known of a node that waits for nothing
+-- what is known of an expanding node
 pub known_next : (f : Frame) → f.state ≡ Expanding → IsCovered (worth f.node.position f.node.eval (f.depth - 1)) (moves_at f.node.position f.depth) (todo f.node.position f.picker) f.alpha f.best_value (code_at f.best_move)
 known_next f next = rw next at f.known
 
--- moves on the board that take nothing are lost by what they leave
+-- quiet board moves fail low if the material, a promotion and `loss` do not beat the threshold
 pub quiets_lost : (f : Frame) (move_filter : MoveFilter) (escapes first most : ℕ) (loss : ℤ) → f.depth ≡ 2 → MovesLeave f loss move_filter.pieces.bits move_filter.squares.bits escapes → (move_filter.promotes ≡ true → PROMOTION_GAIN_MAX ≤ most) → (material_of f.node.position f.node.eval +ℤ pos most +ℤ loss) ≤ℤ move_alpha f.best_value (code_at f.best_move) first
     → (c : ℕ) → IsGuaranteedMove f.node.position false move_filter escapes first c → worth f.node.position f.node.eval (f.depth - 1) c ≤ℤ move_alpha f.best_value (code_at f.best_move) c
 quiets_lost f move_filter escapes first most loss last leave within low = λ c is.
@@ -156,12 +156,12 @@ quiets_lost f move_filter escapes first most loss last leave within low = λ c i
     let up : move_alpha f.best_value (code_at f.best_move) first ≤ℤ move_alpha f.best_value (code_at f.best_move) c = threshold_rises f.best_value (code_at f.best_move) first c is.above in
     omega (arith, ints, worth_most, up, low)
 
--- where moves are skipped that are lost, what is known stays
+-- skipping moves that fail low keeps what is known of a node
 pub skipped_known : (f : Frame) (fact : ℕ → Type 0) (picker : MovePicker) → f.state ≡ Expanding → ((c : ℕ) → fact c → worth f.node.position f.node.eval (f.depth - 1) c ≤ℤ move_alpha f.best_value (code_at f.best_move) c) → IsSkipped fact (todo f.node.position f.picker) (todo f.node.position picker)
     → IsKnownWhile f.node.position f.node.eval f.depth f.alpha f.beta f.best_value (code_at f.best_move) (todo f.node.position picker) f.state
 skipped_known f fact picker next lost passed = rw next (covered_passed (worth f.node.position f.node.eval (f.depth - 1)) fact (moves_at f.node.position f.depth) _ _ f.alpha f.best_value (code_at f.best_move) passed lost (known_next f next))
 
--- so what is left does not grow
+-- skipping moves leaves no more steps than before
 pub left_passed : (f : Frame) (picker : MovePicker) (fact : ℕ → Type 0) → IsSkipped fact (todo f.node.position f.picker) (todo f.node.position picker)
     → 1 + 2 * sum_of_tree_sizes f.node.position (f.depth - 1) (todo f.node.position picker) ≤ left_of_frame f
 left_passed f picker fact passed = omega (arith, sum_passed f.node.position (f.depth - 1) fact _ _ passed)

@@ -1,4 +1,4 @@
--- What is left of a node of which only the moves to visit have changed.
+-- The steps left to a node of which only its moves to visit changed.
 use Rattle.std.proofs.Common.{◌≡◌, ◌-◌, ℕ, ap, ◌∙◌, arith}
 use Rattle.shogi_eval.specs.Evaluated.{Evaluated}
 use Rattle.search_nodes.specs.declared.frame.Frame.{Frame}
@@ -13,6 +13,6 @@ moves_same f g s k =
     ∙ ap (λ (x : ℕ). sum_of_tree_sizes f.node.position (x - 1) (todo f.node.position g.picker)) s.1.0
     ∙ ap (λ (x : MovePicker). sum_of_tree_sizes f.node.position (f.depth - 1) (todo f.node.position x)) k
 
--- with the same moves to visit, as much is left
+-- with equal moves to visit, equally many steps are left
 pub left_kept : (f g : Frame) → IsSame f g → g.picker ≡ f.picker → left_of_frame g ≡ left_of_frame f
 left_kept f g s k = omega (arith, moves_same f g s k)

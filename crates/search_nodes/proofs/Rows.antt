@@ -1,4 +1,4 @@
--- Moves that are passed in a row since a threat stands after them.
+-- Rows of moves that are skipped since the material or a threat settles them.
 use Rattle.std.proofs.Common.{◌≡◌, ◌≢◌, ◌≤◌, ◌+◌, ◌-◌, ◌*◌, ℕ, ℤ, pos, ◌-ℤ◌, ◌≤ℤ◌, ◌∷◌, Option, Bool, true, false, refl, sym, ap, ◌∙◌, arith, subst, inl, inr, bit_or}
 use Rattle.std.proofs.lemmas.Bool.{both_ways, or_cases}
 use Rattle.std.proofs.Props.{props}
@@ -39,18 +39,18 @@ use Rattle.shogi_eval.specs.Exchange.{resolves_captures}
 use Rattle.search_nodes.proofs.Ahead.{material_left, retake_gain, standing_quiet, threat_gain, threat_left}
 use Rattle.search_nodes.proofs.Passed.{IsDropAt, drop_at, drop_worth, known_next}
 
--- moves that leave a reply leave the other side its material, less what a reply may lose
+-- moves that guarantee a reply leave the opponent its material, less what a drop may cost
 pub material_leaves : (f : Frame) (loss : ℤ) (pieces squares escapes : ℕ) → pos 0 ≤ℤ loss → RepliesLoseAtMost f loss → MovesLeave f loss pieces squares escapes
 material_leaves f loss pieces squares escapes least fails_low_by_threat = λ from to promote hf ht piece set legal guaranteed. material_left f.node.position f.node.eval loss (Board from to promote) f.valid (move_of-board from to promote hf ht) legal least fails_low_by_threat (standing_quiet (after f.node.position (Board from to promote)) f.node.eval (guaranteed.0 legal))
 
--- so drops that do not suffice by that are lost
+-- drops fail low if the material after them does not beat the threshold
 pub material_drops : (f : Frame) (kind : Kind) (squares escapes first : ℕ) (loss : ℤ) → f.depth ≡ 2 → pos 0 ≤ℤ loss → RepliesLoseAtMost f loss → DropFailsLow f kind first loss → DropsFailLow f kind squares escapes first
 material_drops f kind squares escapes first loss last least fails_low_by_threat short = λ code is.
     let at : _ = drop_at f.node.position kind squares escapes first code is in
     drop_worth f kind squares escapes first code _ loss last short is.above at (material_left f.node.position f.node.eval loss (Drop kind (code - FIRST_DROP - kind_number kind * 81)) f.valid (move_of-drop kind (code - FIRST_DROP - kind_number kind * 81) at.fits) at.legal least fails_low_by_threat
     (standing_quiet (after f.node.position (Drop kind (code - FIRST_DROP - kind_number kind * 81))) f.node.eval (at.guaranteed.0 at.legal)))
 
--- moves that let a threat be and give no check leave it its material and what that gains
+-- board moves that leave a threat and give no check leave the opponent its material and the threat's gain
 pub threat_leaves : (f : Frame) (plain : resolves_captures f.node.eval ≡ false) (threat : Threat) (loss : ℤ) (pieces aside : ℕ) → IsThreatIn f.node.position f.node.eval threat → loss ≡ pos 0 -ℤ pos threat.gain → ((n : ℕ) → has_bit pieces n ≡ true → n ≢ threat.target) → AreNonInterfering threat true aside → MovesLeave f loss pieces aside 0
 threat_leaves f plain threat loss pieces aside is gains others spared = λ from to promote hf ht piece set legal guaranteed.
     let shut : in_check (after f.node.position (Board from to promote)).cells (opponent_of f.node.position.side) ≡ false = guaranteed.1 refl legal in
@@ -59,7 +59,7 @@ threat_leaves f plain threat loss pieces aside is gains others spared = λ from 
     let least : _ = threat_left f.node.position f.node.eval (Board from to promote) threat.gain (threat_board f.node.position from to promote f.valid hf ht legal shut) (retake_unchecked f.node.position from to promote f.valid hf ht legal shut) takes in
     subst (λ (x : ℤ). LeavesAtLeast f x (Board from to promote)) (sym gains) least
 
--- and so do such drops
+-- drops that leave a threat and give no check leave the opponent its material and the threat's gain
 pub drop_survived : (f : Frame) (plain : resolves_captures f.node.eval ≡ false) (threat : Threat) (loss : ℤ) (kind : Kind) (sliding : Bool) (aside squares c to : ℕ) → IsThreatIn f.node.position f.node.eval threat → loss ≡ pos 0 -ℤ pos threat.gain → AreNonInterfering threat sliding aside → (is_slider (dropped f.node.position.side kind) ≡ true → sliding ≡ true) → has_bit aside to ≡ true → IsDropAt f.node.position kind squares 0 c to
     → LeavesAtLeast f loss (Drop kind to)
 drop_survived f plain threat loss kind sliding aside squares c to is gains spared slides set at =
@@ -69,7 +69,7 @@ drop_survived f plain threat loss kind sliding aside squares c to is gains spare
     let least : _ = threat_left f.node.position f.node.eval (Drop kind to) threat.gain (threat_drop f.node.position kind to f.valid at.fits shut) (retake_drop f.node.position kind to f.valid at.fits) takes in
     subst (λ (x : ℤ). LeavesAtLeast f x (Drop kind to)) (sym gains) least
 
--- a drop that gives no check is taken where such a piece attacks its square
+-- a drop that gives no check on an attacked square leaves the opponent its material and the capture's gain
 pub drop_retaken : (f : Frame) (plain : resolves_captures f.node.eval ≡ false) (loss : ℤ) (kind : Kind) (gain squares c to : ℕ) → gain ≡ taken_gain f.node.eval (dropped f.node.position.side kind) → loss ≡ pos 0 -ℤ pos gain → ∥ IsAttacked f.node.position to ∥₁ → IsDropAt f.node.position kind squares 0 c to → LeavesAtLeast f loss (Drop kind to)
 drop_retaken f plain loss kind gain squares c to value gains attacked at =
     let shut : in_check (after f.node.position (Drop kind to)).cells (opponent_of f.node.position.side) ≡ false = at.guaranteed.1 refl at.legal in
@@ -77,7 +77,7 @@ drop_retaken f plain loss kind gain squares c to value gains attacked at =
     let least : _ = threat_left f.node.position f.node.eval (Drop kind to) gain (threat_drop f.node.position kind to f.valid at.fits shut) (retake_drop f.node.position kind to f.valid at.fits) takes in
     subst (λ (x : ℤ). LeavesAtLeast f x (Drop kind to)) (sym gains) least
 
--- so such drops are lost that do not suffice by it
+-- drops that leave a threat fail low if its gain suffices, and so do drops on attacked squares
 pub surviving_drops : (f : Frame) (plain : resolves_captures f.node.eval ≡ false) (threat : Threat) (loss : ℤ) (kind : Kind) (sliding : Bool) (aside first : ℕ) → f.depth ≡ 2 → IsThreatIn f.node.position f.node.eval threat → loss ≡ pos 0 -ℤ pos threat.gain → AreNonInterfering threat sliding aside → (is_slider (dropped f.node.position.side kind) ≡ true → sliding ≡ true) → DropFailsLow f kind first loss → DropsFailLow f kind aside 0 first
 surviving_drops f plain threat loss kind sliding aside first last is gains spared slides short = λ code guaranteed.
     let at : _ = drop_at f.node.position kind aside 0 first code guaranteed in
@@ -91,7 +91,7 @@ taken_drops f plain threats loss kind gain first last are value gains short = λ
 pub no_drops : (f : Frame) (kind : Kind) (squares escapes first : ℕ) → squares ≡ 0 → DropsFailLow f kind squares escapes first
 no_drops f kind squares escapes first none = λ code guaranteed. absurd (both_ways (has_bit 0 (code - FIRST_DROP - kind_number kind * 81)) (has_bit-none (code - FIRST_DROP - kind_number kind * 81)) (subst (λ (mask : ℕ). has_bit mask (code - FIRST_DROP - kind_number kind * 81) ≡ true) none guaranteed.among))
 
--- on squares of two masks
+-- drops that fail low on two sets of squares do so on their union
 pub drops_of_either : (f : Frame) (kind : Kind) (a b escapes first : ℕ) → DropsFailLow f kind a escapes first → DropsFailLow f kind b escapes first → DropsFailLow f kind (bit_or a b) escapes first
 drops_of_either f kind a b escapes first lost more = λ code k. elim (or_cases (has_bit a (code - FIRST_DROP - kind_number kind * 81)) (has_bit b (code - FIRST_DROP - kind_number kind * 81)) (sym (has_bit-or a b (code - FIRST_DROP - kind_number kind * 81)) ∙ k.among)) [
   | inl one ↦ lost code (record { above = k.above; low = k.low; high = k.high; among = one; legal = k.legal; leaves = k.leaves })
@@ -101,16 +101,16 @@ drops_of_either f kind a b escapes first lost more = λ code k. elim (or_cases (
 pub no_escapes : (p : Shogi) → AreEscapes p 0
 no_escapes p = λ k e hk king he among. absurd (both_ways (has_bit 0 e) (has_bit-none e) among)
 
--- ---- frames that differ in what was looked for
+-- ---- frames that keep a node
 
 pub same_again : (f g h : Frame) → IsSame f g → IsSame g h → IsSame f h
 same_again f g h s t = (t.0 ∙ s.0, (t.1.0 ∙ s.1.0, (t.1.1.0 ∙ s.1.1.0, t.1.1.1 ∙ s.1.1.1)))
 
--- what was found of a node is true of a frame in the same place
+-- a reply cache stays true in a frame of the same node
 pub same_at : (f g : Frame) (cache : ReplyCache) → IsSame f g → IsPreFrontier f cache → IsPreFrontier g cache
 same_at f g cache s at = (s.1.0 ∙ at.0, subst (λ (n : Evaluated). IsReplyCacheOf n cache) (sym s.0) at.1)
 
--- a move that is lost is lost in a frame that keeps the moves
+-- a move that fails low does so in a frame that keeps the moves
 pub lost_kept : (f g : Frame) (m : Move) → KeepsMoves f g → IsLost f m → IsLost g m
 lost_kept f g m k lost =
     let same : worth_of g m ≡ worth_of f m =
@@ -122,23 +122,23 @@ lost_kept f g m k lost =
     subst (λ (x : ℤ). worth_of g m ≤ℤ x) (sym most)
     (subst (λ (x : ℤ). x ≤ℤ move_alpha_of f m) (sym same) lost)
 
--- the next move of the picker is asked for
+-- picking the next move keeps what is known of a node
 pub asked_known : (f : Frame) (m : Move) (picker : MovePicker) → f.state ≡ Expanding
     → todo f.node.position f.picker ≡ code_of m ∷ todo f.node.position picker
     → IsKnownWhile f.node.position f.node.eval f.depth f.alpha f.beta f.best_value (code_at f.best_move) (todo f.node.position picker) (AwaitingChild m)
 asked_known f m picker next codes = rw (← codes) (known_next f next)
 
--- the same moves are still to be visited
+-- a picker with equal moves to visit keeps what is known of a node
 pub turned_known : (f : Frame) (picker : MovePicker) → todo f.node.position picker ≡ todo f.node.position f.picker
     → IsKnownWhile f.node.position f.node.eval f.depth f.alpha f.beta f.best_value (code_at f.best_move) (todo f.node.position picker) f.state
 turned_known f picker codes = rw codes f.known
 
--- and as much is left
+-- a picker with equal moves to visit leaves no more steps than before
 pub turned_left : (f : Frame) (picker : MovePicker) → todo f.node.position picker ≡ todo f.node.position f.picker
     → 1 + 2 * sum_of_tree_sizes f.node.position (f.depth - 1) (todo f.node.position picker) ≤ left_of_frame f
 turned_left f picker codes = omega (arith, ap (sum_of_tree_sizes f.node.position (f.depth - 1)) codes)
 
--- of what was left the steps for the tree after the move that is asked for are taken off
+-- picking a move takes the steps for its tree off those left
 pub asked_left : (f : Frame) (m : Move) (picker : MovePicker)
     → todo f.node.position f.picker ≡ code_of m ∷ todo f.node.position picker
     → steps_after f m + (1 + 2 * sum_of_tree_sizes f.node.position (f.depth - 1) (todo f.node.position picker)) ≤ left_of_frame f

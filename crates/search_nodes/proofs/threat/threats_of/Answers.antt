@@ -15,13 +15,13 @@ use Rattle.search_nodes.specs.Threats.{AreAttacked, AreThreatsIn}
 use Rattle.search_nodes.specs.declared.threat.Threats.{Threats}
 use Rattle.search_nodes.proofs.threat.threats_of.Goals as goal
 
--- an attack on one of the squares of the mover is a threat
+-- an attack on one of the mover's pieces is a threat
 capture_at : (p : Shogi) (a t own attacks : ℕ) → ((n : ℕ) → n < 81 → has_bit own n ≡ is_piece_of p.side (piece_at p.cells n)) → ((n : ℕ) → n < 81 → has_bit attacks n ≡ true → IsAttack p a n false) → t < 81 → has_bit (bit_and own attacks) t ≡ true → IsThreat p a t false
 capture_at p a t own attacks mine are h e =
     let parts : (has_bit own t ≡ true) × (has_bit attacks t ≡ true) = and_parts _ _ (sym (has_bit-and own attacks t) ∙ e) in
     record { attack = are t h parts.1; target = other_side p.side (piece_at p.cells t) (sym (mine t h) ∙ parts.0) }
 
--- and so is one with promotion on a square that is not of its own side
+-- an attack with promotion on a square without a piece of the attacker's side is a threat
 promotion_at : (p : Shogi) (a t theirs attacks : ℕ) → theirs < 2 ^ 128 → ((n : ℕ) → n < 81 → has_bit theirs n ≡ is_piece_of (opponent_of p.side) (piece_at p.cells n)) → ((n : ℕ) → n < 81 → has_bit attacks n ≡ true → IsAttack p a n true) → t < 81 → has_bit (bit_and attacks (2 ^ 128 - 1 - theirs)) t ≡ true → IsThreat p a t true
 promotion_at p a t theirs attacks fits are_theirs are h e =
     let parts : (has_bit attacks t ≡ true) × (has_bit (2 ^ 128 - 1 - theirs) t ≡ true) = and_parts _ _ (sym (has_bit-and attacks (2 ^ 128 - 1 - theirs) t) ∙ e) in

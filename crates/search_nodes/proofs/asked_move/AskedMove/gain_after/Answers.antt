@@ -26,7 +26,7 @@ retaken : (threats : Threats) (p : Shogi) (e : Eval) (m : Move) (to : ℕ) {gain
 retaken threats p e m to {gain} are v back legal ends h parts some = λ keeps retakes.
     ∥∥₁_elim (are.takes to h ((parts some).0)) (Prim.hlevel props) (λ attacked. retake_gain p e are.plain m to gain v back legal ends attacked ((parts some).1) keeps retakes)
 
--- a threat that is left takes what it gains
+-- a threat that the move leaves may be carried out for its gain
 left : (threat : Option Threat) (p : Shogi) (e : Eval) (m : Move) (put : Option Piece) (gain : ℕ) → LeavesCaptures e → ForSome threat (IsThreatIn p e) → IsValid p → move_of (code_of m) ≡ Some m → is_legal p m ≡ true → put_by p m ≡ put → GainsAfter threat put m gain → TakesAfter p e m gain
 left None p e m put gain plain are v back legal puts after = absurd after
 left (Some threat) p e m put gain plain are v back legal puts after =
