@@ -1,19 +1,19 @@
--- What a memory of searched positions is asked and told, call by call (own choice).
+-- The calls that a search makes of its memory (own choice).
 use Rattle.std.specs.Prelude.{◌≡◌, ◌≤◌, ◌+◌, ◌-◌, ◌*◌, ◌^◌, ℕ, List, [], ◌∷◌, Option, sum_by, min}
 use Rattle.shogi_core.specs.Position.{Shogi}
 use Rattle.shogi_eval.specs.declared.eval.Eval.{Eval}
 use Rattle.minimax.specs.declared.entry.Entry.{Entry}
 
--- a call: the memory was asked for a position under an evaluation at a depth and gave this answer, or was told this of it
+-- a probe of a position under an evaluation at a depth with its answer, or a note of an entry
 pub data Call : Type 0 where
   Probe : (p : Shogi) (e : Eval) (d : ℕ) (answer : Option Entry) → Call
   Note : (p : Shogi) (e : Eval) (d : ℕ) (entry : Entry) → Call
 
--- a question for a position, with what a memory that gives these answers has for it
+-- the probe of a position that a memory of these answers gives
 abbrev pub probe_of : (Shogi → Eval → ℕ → Option Entry) → Shogi → Eval → ℕ → Call
 probe_of answers p e d = Probe p e d (answers p e d)
 
--- 1 for a question, and 1 for what was told
+-- a probe counts as one question, a note as one telling
 abbrev pub question_of : Call → ℕ
 question_of (Probe p e d answer) = 1
 question_of (Note p e d entry) = 0
@@ -22,13 +22,13 @@ abbrev pub telling_of : Call → ℕ
 telling_of (Probe p e d answer) = 0
 telling_of (Note p e d entry) = 1
 
--- these calls were made, one after another, by what a memory states of one call
+-- the calls were made in this order, and each changed the memory as stated
 unfoldable pub AreCalled : {M : Type 0} → (M → Call → M → Type 0) → M → List Call → M → Type 0
 AreCalled called old [] new = new ≡ old
 AreCalled {M} called old (call ∷ rest) new =
     (mid : M) × (called old call mid × AreCalled called mid rest new)
 
--- between two counts of steps, while the number of nodes that are entered and not left went from one number to another, a memory was told at most once a step, and asked at most once a step, once more for each further node, so often besides, and 14 times for each walk along the best line, of which two steps make one at most
+-- between two counts of steps, at most one note a step; and at most one probe a step, one for each node entered, 14 for each walk along the best line, and `besides` more; at most one walk in two steps
 pub record CallsInSteps {M : Type 0} (called : M → Call → M → Type 0) (old new : M)
     (steps_before steps_after entered_before entered_after besides : ℕ) : Type 0 where
   pub calls : List Call
@@ -42,7 +42,7 @@ pub record CallsInSteps {M : Type 0} (called : M → Call → M → Type 0) (old
       ≤ made + entered_after + (14 * walks + besides)
   pub walked : 2 * walks + entered_after ≤ made + entered_before
 
--- the last call was this one
+-- the calls end with this one
 pub record EndsWith {M : Type 0} (called : M → Call → M → Type 0) (old new : M) (last : Call)
     : Type 0 where
   pub calls : List Call
@@ -50,11 +50,11 @@ pub record EndsWith {M : Type 0} (called : M → Call → M → Type 0) (old new
   pub each : AreCalled called old calls before
   pub ends : called before last new
 
--- the memory was asked so often at most, and told nothing
+-- at most `most` probes were made, and no note
 abbrev pub Asks : {M : Type 0} → (M → Call → M → Type 0) → M → M → ℕ → Type 0
 Asks called old new most = CallsInSteps called old new 0 0 0 0 most
 
--- the memory was told one thing at most, and asked nothing
+-- at most one note was made, and no probe
 pub record TellsOnce {M : Type 0} (called : M → Call → M → Type 0) (old new : M) : Type 0 where
   pub calls : List Call
   pub each : AreCalled called old calls new

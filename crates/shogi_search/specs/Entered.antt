@@ -1,4 +1,4 @@
--- What a search knows of the nodes that it has entered and not left (own choice).
+-- The nodes that a search has entered and not left, and what is known of them (own choice).
 use Rattle.std.specs.Prelude.{◌≡◌, ℕ, ◌-◌, ◌<◌, ℤ, ◌≤ℤ◌, true, List, [], ◌∷◌, Option, MatchOption, IsSomeAnd}
 use Rattle.shogi_core.specs.Position.{Shogi}
 use Rattle.shogi_moves.specs.After.{after_code}
@@ -8,7 +8,7 @@ use Rattle.minimax.specs.Minimax.{value, worth, negated}
 use Rattle.search_nodes.specs.Visits.{moves_at}
 use Rattle.minimax.specs.Window.{IsCovered, move_alpha}
 
--- a node that was entered and not left: its position, under which evaluation, and the plies left; its window; the greatest worth so far, or alpha, and the code of the best move so far; the codes of the moves that are still to be searched, and which of them is being searched; and what the node is worth at least, where a child has cut it off
+-- a node entered and not left: its window, best value and best move so far, the moves not yet searched and the one being searched, and the lower bound that cut it off
 pub record Entered : Type 0 where
   pub position : Shogi
   pub eval : Eval
@@ -21,21 +21,21 @@ pub record Entered : Type 0 where
   pub current : Option ℕ
   pub conclusive : Option ℤ
 
--- each move but the unsearched ones is worth no more than the best so far, and less where its code is less than that of the best move, which is worth exactly that
+-- each move searched is worth at most its threshold, and the best move exactly the best value
 abbrev pub IsSearchedSoFar : Entered → Type 0
 IsSearchedSoFar n =
     IsCovered (worth n.position n.eval (n.depth - 1)) (moves_at n.position n.depth) n.unsearched
     n.alpha n.best_value n.best_code
 
--- the node is worth at least this, which is enough
+-- the node is worth at least `v`, and `v` reaches beta
 abbrev pub IsConclusiveAt : Entered → ℤ → Type 0
 IsConclusiveAt n v = (n.beta ≤ℤ v) × (v ≤ℤ value n.position n.eval n.depth)
 
--- what is known of a node, cut off by a child or not
+-- the node is cut off by its lower bound or, without one, searched so far
 abbrev pub IsKnownNode : Entered → Type 0
 IsKnownNode n = MatchOption n.conclusive (IsSearchedSoFar n) (IsConclusiveAt n)
 
--- a node of a position under an evaluation at a depth, under a window
+-- the node has this position, evaluation, depth and window
 pub record IsNodeAt (p : Shogi) (e : Eval) (d : ℕ) (low high : ℤ) (n : Entered) : Type 0 where
   pub position_is : n.position ≡ p
   pub eval_is : n.eval ≡ e
@@ -43,7 +43,7 @@ pub record IsNodeAt (p : Shogi) (e : Eval) (d : ℕ) (low high : ℤ) (n : Enter
   pub alpha_is : n.alpha ≡ low
   pub beta_is : n.beta ≡ high
 
--- a way down the tree from such a node: each further node is the child after the move that the one before is searching, one ply less deep, under the window that is left for that move
+-- a path down from such a node: each next node is the child of the move being searched, one ply less deep, under the window left for that move
 abbrev pub IsPath : Shogi → Eval → ℕ → ℤ → ℤ → List Entered → Type 0
 IsPath p e d low high [] = ⊥
 IsPath p e d low high (n ∷ []) = IsNodeAt p e d low high n

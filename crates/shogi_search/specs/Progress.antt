@@ -10,7 +10,7 @@ use Rattle.shogi_search.specs.Entered.{Entered, IsPath}
 use Rattle.minimax.specs.Entries.{IsEnoughBelow, IsExactly}
 use Rattle.minimax.specs.declared.bounds.TheConstants.{INFINITY}
 
--- where it began, under which evaluation, how deep it looks, the bound below which values are found, whether its root is entered, the nodes that are entered and not left, what is left of it, its steps so far, and what it found
+-- the question of the search (`root`, `eval`, `depth`, `beta`), whether its root is entered, the nodes entered and not left, the steps that it may still make, those made, and the result
 pub record Progress : Type 0 where
   pub root : Shogi
   pub eval : Eval
@@ -22,11 +22,11 @@ pub record Progress : Type 0 where
   pub steps : ℕ
   pub found : Option Found
 
--- the steps that may still be made
+-- the steps that the search may still make
 abbrev pub left_of : Progress → ℕ
 left_of search = search.left
 
--- a search before its first slice, for values below a bound
+-- a search for values below `beta` before its first slice
 abbrev pub untouched_below : Shogi → Eval → ℕ → ℤ → Progress
 untouched_below p e d beta = record {
   root = p;
@@ -40,21 +40,21 @@ untouched_below p e d beta = record {
   found = None;
 }
 
--- a search before its first slice, where every value is below the bound
+-- a search under the full window before its first slice
 abbrev pub untouched : Shogi → Eval → ℕ → Progress
 untouched p e d = untouched_below p e d INFINITY
 
--- it has made no step yet
+-- the search has not started and has no result
 pub record IsFresh (search : Progress) : Type 0 where
   pub unstarted : search.started ≡ false
   pub none : search.found ≡ None
 
--- it has entered its root, and not ended
+-- the search has entered its root and has no result
 pub record IsUnderWay (search : Progress) : Type 0 where
   pub begun : search.started ≡ true
   pub none : search.found ≡ None
 
--- the nodes that it has entered and not left are a way down from its root, whose window ends at the bound, or before it while a child of the root is entered
+-- the nodes entered form a path from the root, whose window ends at the bound of the search, or earlier while a child of the root is entered
 pub record HasPath (search : Progress) : Type 0 where
   pub high : ℤ
   pub within : high ≤ℤ search.beta
@@ -67,35 +67,35 @@ pub record IsBeta (beta : ℤ) : Type 0 where
   pub above : negated INFINITY <ℤ beta
   pub most : beta ≤ℤ INFINITY
 
--- what a memory that gives these answers has for its root says enough, below its bound
+-- the memory's answer for the root is conclusive below the bound
 abbrev pub IsAnsweredBy : (Shogi → Eval → ℕ → Option Entry) → Progress → Type 0
 IsAnsweredBy answers search =
     IsEnoughBelow search.beta (answers search.root search.eval search.depth)
 
--- and that is the value itself
+-- the memory's answer for the root is exact
 abbrev pub IsExactlyAnsweredBy : (Shogi → Eval → ℕ → Option Entry) → Progress → Type 0
 IsExactlyAnsweredBy answers search = IsExactly (answers search.root search.eval search.depth)
 
--- before the first step, an answer for its root that says enough ends it
+-- before the first step, a conclusive answer for the root ends the search
 abbrev pub EndsWhereAnswered :
     (Shogi → Eval → ℕ → Option Entry) → Option Found → Progress → Progress → Type 0
 EndsWhereAnswered answers result old new =
     old.started ≡ false → IsAnsweredBy answers old → IsSome result × (new.steps ≡ old.steps)
 
--- and so does the value itself
+-- before the first step, an exact answer for the root ends the search
 abbrev pub EndsWhereKnown :
     (Shogi → Eval → ℕ → Option Entry) → Option Found → Progress → Progress → Type 0
 EndsWhereKnown answers result old new =
     old.started ≡ false → IsExactlyAnsweredBy answers old
     → IsSome result × (new.steps ≡ old.steps)
 
--- its root, its evaluation, its depth and its bound are what they were
+-- the search keeps its root, evaluation, depth and bound
 abbrev pub KeepsQuestion : Progress → Progress → Type 0
 KeepsQuestion old new =
     (new.root ≡ old.root)
     × ((new.eval ≡ old.eval) × ((new.depth ≡ old.depth) × (new.beta ≡ old.beta)))
 
--- what is found of a position below a bound: the value and the best move where it is less, and else no more than the value; a best move that is found is the best move
+-- the result of a search below a bound: the value and the best move if the value is less, otherwise a lower bound of the value and the best move or none
 pub record IsFoundBelow (p : Shogi) (e : Eval) (d : ℕ) (beta : ℤ) (f : Found) : Type 0 where
   pub value_is : f.value <ℤ beta → f.value ≡ value p e d
   pub best_is : f.value <ℤ beta → f.best ≡ best p e d
@@ -104,20 +104,20 @@ pub record IsFoundBelow (p : Shogi) (e : Eval) (d : ℕ) (beta : ℤ) (f : Found
   pub least : negated INFINITY <ℤ f.value
   pub most : f.value <ℤ INFINITY
 
--- what is found of its root below its bound
+-- the result is true of the root below the bound of the search
 abbrev pub IsFoundBy : Progress → Found → Type 0
 IsFoundBy search f = IsFoundBelow search.root search.eval search.depth search.beta f
 
--- where its bound is the end of the whole window, the value of its root is found
+-- under the full window, the result has the value of the root
 abbrev pub FindsValue : Progress → Found → Type 0
 FindsValue search f =
     search.beta ≡ INFINITY → f.value ≡ value search.root search.eval search.depth
 
--- and the best move
+-- under the full window, the result has the best move of the root
 abbrev pub FindsBest : Progress → Found → Type 0
 FindsBest search f =
     search.beta ≡ INFINITY → f.best ≡ best search.root search.eval search.depth
 
--- in no more than four steps for each node of its tree
+-- the result took at most four steps for each node of the root's tree
 abbrev pub FitsTree : Progress → Found → Type 0
 FitsTree search f = f.steps ≤ 4 * tree_size search.root search.depth

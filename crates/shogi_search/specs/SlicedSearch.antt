@@ -16,34 +16,34 @@ use Rattle.shogi_search.specs.Stack.{IsReady, frames_of, steps_left}
 use Rattle.minimax.specs.Window.{code_at}
 use Rattle.minimax.specs.declared.bounds.TheConstants.{SEARCH_DEPTH_MAX}
 
--- the most steps of the search: four for each node of the tree, since moves of the root may be asked twice
+-- the most steps of the search: four for each node of the tree, since children of the root may be searched twice
 abbrev pub steps_of_tree : Stack → ℕ
 steps_of_tree s = 4 * tree_size s.root s.depth
 
--- nothing once it has found, all before the root is entered, and else what is left of the stack
+-- the steps left: none at the end, all before the root is entered, otherwise those of the stack
 abbrev pub left_in : Option Found → Bool → ℕ → ℕ → ℕ
 left_in (Some f) started whole rest = 0
 left_in None false whole rest = whole
 left_in None true whole rest = rest
 
--- the move whose child is being searched or was just valued
+-- the move that the node waits for
 abbrev pub current_in : NodeState → Option ℕ
 current_in Expanding = None
 current_in (AwaitingChild m) = Some (code_of m)
 current_in (CutOff v) = None
 
--- what the node is worth at least, where a child has cut it off
+-- the lower bound that cut the node off
 abbrev pub conclusive_in : NodeState → Option ℤ
 conclusive_in Expanding = None
 conclusive_in (AwaitingChild m) = None
 conclusive_in (CutOff v) = Some v
 
--- the current move, and then those to be visited
+-- the current move, if there is one, before the moves to visit
 abbrev pub and_current : Option ℕ → List ℕ → List ℕ
 and_current None codes = codes
 and_current (Some code) codes = code ∷ codes
 
--- a node of the stack as a caller sees it
+-- a frame of the stack as the caller sees it
 abbrev pub entered_of : Frame → Entered
 entered_of f = record {
   position = f.node.position;
@@ -58,13 +58,13 @@ entered_of f = record {
   conclusive = conclusive_in f.state;
 }
 
--- the nodes of the stack once the root is entered, and none once it has found
+-- the nodes entered: none before the root is, and none at the end
 abbrev pub entered_in : Option Found → Bool → List Entered → List Entered
 entered_in (Some f) started nodes = []
 entered_in None false nodes = []
 entered_in None true nodes = nodes
 
--- a search as its caller sees it
+-- the search as its caller sees it
 abbrev pub progress_of : Inside → Progress
 progress_of s = record {
   root = s.stack.root;
@@ -78,12 +78,12 @@ progress_of s = record {
   found = s.found;
 }
 
--- what it found is found below its bound, in all its steps
+-- the result is true below the bound, and counts all steps
 pub record IsKnown (s : Inside) (f : Found) : Type 0 where
   pub below : IsFoundBelow s.stack.root s.stack.eval s.stack.depth s.stack.beta f
   pub steps_are : f.steps ≡ s.steps
 
--- once started and until it has found, the stack is a chain from the root
+-- depth and bound are in range, the result is true, the steps fit the tree and, while the search is under way, its stack is ready
 pub record IsSearch (s : Inside) : Type 0 where
   pub shallow : s.stack.depth ≤ SEARCH_DEPTH_MAX
   pub beta : IsBeta s.stack.beta

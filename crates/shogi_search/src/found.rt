@@ -1,19 +1,17 @@
-//! What a search found.
+//! The result of a search.
 
 use shogi_core::Move;
 
-/// Result of a search.
+/// What a search found.
 #[derive(Clone, Copy, Debug, PartialEq, Eq)]
 pub struct Found {
-    /// The value for the side to move, from -30,016 to 30,016. Of a search below a bound, a number
-    /// from the bound on is only no more than the value.
+    /// The value for the side to move, from -30,016 to 30,016. In a search below a bound, a value
+    /// at or above the bound is only a lower bound.
     pub value: i32,
-    /// The best move, of least code among equals; `None` where no move is legal or the depth is 0.
-    /// Of a search below a bound it may be `None` besides where the value is no less than the
-    /// bound.
+    /// The best move, of lowest code among equals; `None` if no move is legal or the depth is 0. In
+    /// a search below a bound it may also be `None` if the value is at or above the bound.
     pub best: Option<Move>,
-    /// The steps made: it stays at the greatest number once it is there. A step enters a node,
-    /// leaves a node, or has a child or the root answered at once: by the memo, or where one ply is
-    /// left or none. A root that the memo answers takes none.
+    /// The steps made; the count saturates. A step enters a node, leaves a node, or settles a child
+    /// or the root at once. A root that the memo answers takes none.
     pub steps: u64,
 }

@@ -1,4 +1,4 @@
-//! A search at once.
+//! A search in one call.
 
 ghost use Rattle.std.specs.Prelude.{◌≡◌, ◌≤◌, ◌*◌, ◌≤ℤ◌, ◌<ℤ◌, true, [], ◌↔◌, ◌⊎◌, IfSome, IsNone};
 ghost use Rattle.shogi_moves.specs.Legal.{is_legal};
@@ -16,7 +16,8 @@ use shogi_core::Position;
 use shogi_eval::Eval;
 
 /// The value of a position under an evaluation at a depth from 0 to 16, and its best move, by
-/// alpha-beta over any memo. A root that the memo answers exactly takes no step.
+/// alpha-beta over any memo. It takes at most four steps for each node of the full tree, and none
+/// if the memo answers the root exactly.
 pub fn search<M: Memo>(p: &Position, e: Eval, d: u8, memo: &mut M) -> Found
     requires { d ≤ SEARCH_DEPTH_MAX }
     ensures value { result.value ≡ value p.now e d }

@@ -1,11 +1,10 @@
 //! Minimax at a fixed depth, over any memo and in slices.
 //!
-//! Alpha-beta is `Stack::step`, over the frames of the nodes on the way down from the root, those
-//! of `search_nodes`; what it has to find is `value` and `best` of `minimax`, and what it promises
-//! stands at `Search`. A step enters a node, leaves a node, or has a child or the root answered at
-//! once: a child by the memo, or since its window lies outside what its depth can be worth, and
-//! either where one ply is left or none, by `last_ply`. `Search` counts them in slices. `ranks`
-//! keeps the best moves of a root with several lines.
+//! `Stack::step` is alpha-beta over the frames of `search_nodes`, from the root down; `Search`
+//! counts its steps in slices, and its contracts say what it promises. Values and best moves are
+//! those of `minimax`. A step enters a node, leaves a node, or settles a child or the root at once:
+//! by the memo, by mate distance, or by `last_ply`. `Ranks` keeps the best moves of a root for
+//! MultiPV.
 #![tactic(auto)]
 
 mod found;

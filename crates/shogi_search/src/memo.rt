@@ -1,4 +1,4 @@
-//! What is remembered of searched positions.
+//! The transposition table as a search sees it.
 
 ghost use Rattle.std.specs.Prelude.{◌≡◌, ◌≤◌, ℕ, Option, None, IfSome, false, ⊤};
 ghost use Rattle.shogi_core.specs.Position.{Shogi};
@@ -12,20 +12,20 @@ use minimax::Entry;
 use shogi_core::Position;
 use shogi_eval::Eval;
 
-/// What a search asks of a transposition table. It may forget at any time, and what it answers is
-/// true.
+/// What a search asks of a transposition table. An implementation may forget at any time, but each
+/// answer is true.
 pub trait Memo {
     ghost answers: { Self → Shogi → Eval → ℕ → Option Entry };
 
-    /// How much it keeps at most, where it states that. No call changes it.
+    /// The most that the memo keeps, if it states that. No call changes it.
     ghost capacity: { Self → ℕ } = { λ _. 0 };
 
-    /// What a call with its answer, or with what is told, leaves of it. It may state nothing.
+    /// How the call changes the memo. An implementation may state nothing.
     ghost called: { Self → Call → Self → Type 0 } = { λ _ _ _. ⊤ };
 
-    /// Whether a search asks for the nodes of the depth below its root, and notes them. That costs or
-    /// saves time, and changes nothing else. Nodes with one ply left or none are never asked for below
-    /// the root. A node of depth 2 that is known exactly is noted all the same.
+    /// Whether a search probes and stores nodes of the depth below its root. The choice changes
+    /// only the time. Below the root a search never probes nodes with fewer than two plies left. It
+    /// stores exact nodes of depth 2 even if they are not served.
     fn serves(&self, _d: u8) -> bool {
         true
     }
@@ -37,7 +37,7 @@ pub trait Memo {
         ensures called { called self.old (Probe p.now e d result) self.new }
         ensures capacity { capacity self.new ≡ capacity self.old };
 
-    /// Takes in what a search found out. It may be kept or not.
+    /// Stores a true entry, or drops it.
     fn note(&mut self, p: &Position, e: Eval, d: u8, entry: Entry)
         requires truth { IsTrueEntry p.now e d entry }
         requires depth { d ≤ SEARCH_DEPTH_MAX }
@@ -45,7 +45,7 @@ pub trait Memo {
         ensures capacity { capacity self.new ≡ capacity self.old };
 }
 
-/// Remembers nothing.
+/// A memo that remembers nothing.
 #[derive(Clone, Copy, Debug)]
 pub struct NoMemo;
 

@@ -1,4 +1,4 @@
-//! The best moves of a position, for analysis with several lines.
+//! The best moves of a position, for MultiPV.
 
 ghost use Rattle.std.specs.Prelude.{◌≡◌, ℕ, ℤ, ◌≤◌, [], length, take, insert, true, false};
 ghost use Rattle.shogi_core.specs.Codes.{code_of};
@@ -12,14 +12,14 @@ use minimax::INFINITY;
 use shogi_core::Move;
 use std::marker::Model;
 
-/// The greatest number of lines.
+/// The most lines.
 pub const MULTI_PV_MAX: usize = 8;
 
-/// A pair more than there are lines: a new one is put in before the last one goes.
+/// One pair more than there are lines, since `offer` inserts before it truncates.
 const ROOM: usize = 9;
 
-/// Top moves for MultiPV: the best of the moves that were offered, with their values, at most so many
-/// as there are lines, the greater value first, among equal ones the lesser code.
+/// The best of the moves offered, with their values, at most one for each line: by falling value,
+/// and by rising code among equals.
 #[derive(Drop)]
 pub struct Ranks {
     lines: usize,
@@ -36,7 +36,7 @@ impl Model for Ranks {
     ghost invariant = { λ r. AreRankedWithin r.lines r.pairs.items };
 }
 
-/// Whether a move with its value stands before another one.
+/// Whether the move ranks before `other`.
 fn is_better(m: &Move, value: i32, other: &(Move, i32)) -> bool
     ensures { result ≡ is_better value (code_of m.now) other.now.1 (code_of other.now.0) }
 {
@@ -44,7 +44,7 @@ fn is_better(m: &Move, value: i32, other: &(Move, i32)) -> bool
 }
 
 impl Ranks {
-    /// No move yet, for a number of lines from 1 to 8.
+    /// An empty list for 1 to 8 lines.
     pub fn new(lines: usize) -> Ranks
         requires least { 1 ≤ lines }
         requires most { lines ≤ MULTI_PV_MAX }
@@ -57,7 +57,7 @@ impl Ranks {
         }
     }
 
-    /// Where a move with its value goes.
+    /// The index at which the move is to be inserted.
     fn place_of(&self, m: &Move, value: i32) -> usize
         ensures place { IsPlaceOf m.now value self.now.pairs result }
         ensures bound { result ≤ length self.now.pairs }
@@ -71,8 +71,7 @@ impl Ranks {
         pairs.len()
     }
 
-    /// Puts a move with its value in its place, and drops the last one where there are more than
-    /// lines.
+    /// Inserts the move at its rank, and drops the last one if the list exceeds its lines.
     pub fn offer(&mut self, m: Move, value: i32)
         requires { is_in (code_of m) (codes_in self.old.pairs) ≡ false }
         ensures lines { self.new.lines ≡ self.old.lines }
@@ -84,8 +83,8 @@ impl Ranks {
         self.pairs.truncate(self.lines);
     }
 
-    /// What a move has to be worth more than to be listed, if its code is greater than those of all
-    /// moves offered so far: the value on the last line. `None` where a line is free.
+    /// The value that a move of greater code than all offered so far has to beat to be listed: the
+    /// last line's. `None` if a line is free.
     pub fn move_alpha(&self) -> Option<i32>
         ensures { result ≡ value_to_pass self.now }
     {
@@ -93,8 +92,8 @@ impl Ranks {
         Some(*value)
     }
 
-    /// The bound below which the child of such a move is searched: from there on the move is not
-    /// listed. The end of the whole window where a line is free.
+    /// The beta for the child of such a move: a child of this value or more is not listed. The end
+    /// of the full window if a line is free.
     pub fn child_beta(&self) -> i32
         requires { IsBeta (child_beta self.now) }
         ensures value { result ≡ child_beta self.now }
@@ -106,7 +105,7 @@ impl Ranks {
         }
     }
 
-    /// The best moves so far with their values.
+    /// The best moves so far with their values, the best one first.
     pub fn list(&self) -> &[(Move, i32)]
         ensures value { result.now ≡ self.now.pairs }
         ensures ordered { are_ranked self.now.pairs ≡ true }

@@ -21,19 +21,20 @@ use shogi_core::{Move, Position};
 use shogi_eval::{Eval, Node};
 use std::marker::Model;
 
-/// A search of a position under an evaluation at a depth, for its value below a bound. It makes its
-/// steps in slices, and each slice may be given another memo. A step enters a node, leaves a node,
-/// or has a child or the root answered at once: a child by the memo, or where its window lies
-/// outside what its depth can be worth, and either where one ply is left or none. From depth 5 on a
-/// child of the root is entered under a narrow window once the root has a best move; where that was
-/// not enough, the step that leaves it enters it again. The greatest work of a step is about that of
-/// making and asking all moves of one position. A step that leaves a child of the root may ask the
-/// memo once more for each ply that is left along the best line. A node that is entered visits
-/// first, where they are legal: at the root the moves that are advised;
-/// the best move one ply less deep, where the memo has that; the best move of the node that was
-/// searched before in its place, or the move that cut that one off; from depth 3 on up to four more
-/// moves that cut off nodes there; and, where there is room, the move that last cut off a node to
-/// which a move of such a piece to the same square had led.
+/// A resumable search of a position under an evaluation at a depth, for its value below a bound.
+/// Each slice may be given another memo.
+///
+/// A step enters a node, leaves a node, or settles a child or the root at once: by the memo, by
+/// mate distance, or by `last_ply` if at most one ply is left. A step takes at most about as long
+/// as making and examining all moves of one position. One that leaves a child of the root may also
+/// probe the memo once for each ply of the best line.
+///
+/// At depth 3 and from depth 5 on, once the root has a best move, its children are entered under a
+/// narrow window, and again under the whole one if that is not enough.
+///
+/// A node first visits, if legal: at the root the advised moves; the hash move; the best or cutting
+/// move of the node that was last in its frame; from depth 3 on four killers; below the root, if
+/// there is room, the counter move.
 #[derive(Drop)]
 pub struct Search {
     stack: Stack,
@@ -56,7 +57,7 @@ impl Model for Search {
     ghost invariant = { IsSearch };
 }
 
-/// What is known of the root once it is left.
+/// The result that a conclusive entry of the root gives.
 fn found_of(entry: &Entry, root: &Position, e: Eval, depth: u8, beta: i32, steps: u64) -> Found
     requires shallow { depth ≤ SEARCH_DEPTH_MAX }
     requires open { negated INFINITY <ℤ beta }
@@ -82,7 +83,7 @@ fn found_of(entry: &Entry, root: &Position, e: Eval, depth: u8, beta: i32, steps
 }
 
 impl Search {
-    /// A search that has made no step yet.
+    /// A search that has made no step, for depths 0 to 16.
     pub fn start(p: &Position, e: Eval, d: u8) -> Self
         requires { d ≤ SEARCH_DEPTH_MAX }
         ensures { result ≡ untouched p.now e d }
@@ -90,9 +91,9 @@ impl Search {
         Search::start_below(p, e, d, INFINITY)
     }
 
-    /// The same below `beta`, from -30,999 to 31,000: it finds the value and the best move only where
-    /// the value is less than `beta`, and otherwise a number from `beta` on that is no more than the
-    /// value.
+    /// Like `start`, but below `beta`, from -30,999 to 31,000. The search finds the value and the
+    /// best move only if the value is less than `beta`, otherwise a lower bound that is at least
+    /// `beta`.
     pub fn start_below(p: &Position, e: Eval, d: u8, beta: i32) -> Self
         requires shallow { d ≤ SEARCH_DEPTH_MAX }
         requires beta { IsBeta beta }
@@ -117,7 +118,7 @@ impl Search {
         }
     }
 
-    /// Begins anew, as `start` does, in the room of this search.
+    /// Begins anew like `start`, in place.
     pub fn restart(&mut self, p: &Position, e: Eval, d: u8)
         requires { d ≤ SEARCH_DEPTH_MAX }
         ensures { self.new ≡ untouched p.now e d }
@@ -125,9 +126,8 @@ impl Search {
         self.restart_below(p, e, d, INFINITY);
     }
 
-    /// Begins anew, as `start_below` does, in the room of this search. What refuted a move in the
-    /// search before is tried first in this one, so that it may take other steps than one that is
-    /// started.
+    /// Begins anew like `start_below`, in place. The refutations of the search before stay and are
+    /// tried first, so the steps may differ from those of a new search.
     pub fn restart_below(&mut self, p: &Position, e: Eval, d: u8, beta: i32)
         requires shallow { d ≤ SEARCH_DEPTH_MAX }
         requires beta { IsBeta beta }
@@ -143,9 +143,9 @@ impl Search {
         self.advised = PriorityMoves::none();
     }
 
-    /// Has the root visit these moves first once it is entered, in this order, where they are legal: as
-    /// the best moves of searches less deep. What is found is the same, and only the steps may be
-    /// others. A search that begins anew has no such moves.
+    /// Has the root visit these moves first, in this order, if they are legal: for example the best
+    /// moves of shallower searches. Only the steps may change, not the result. Restarting clears
+    /// the advice.
     pub fn advise(&mut self, moves: [Option<Move>; 2])
         ensures { self.new ≡ self.old }
     {
@@ -156,10 +156,8 @@ impl Search {
         self.advised = advised;
     }
 
-    /// States what is known of a search that has entered its root and not ended: which nodes it has
-    /// entered and not left, each the child of the one before, and what they are worth so far. Of
-    /// any search it states that each such node is worth its greatest searched move so far, or
-    /// enough to be cut off.
+    /// States the path of entered nodes, each the child of the one before, while the search is
+    /// under way, and what each node is known to be worth so far.
     pub fn reveal_invariant(&self)
         ensures path { self.now.started ≡ true → self.now.found ≡ None → HasPath self.now }
         ensures known { All IsKnownNode self.now.entered }
@@ -167,14 +165,14 @@ impl Search {
         let _ = &self.started;
     }
 
-    /// The steps so far; the count stays at the greatest number once it is there.
+    /// The steps so far; the count saturates.
     pub fn steps(&self) -> u64
         ensures { result ≡ self.now.steps }
     {
         self.steps
     }
 
-    /// Enters the root.
+    /// Enters the root in one step.
     fn enter_root<M: Memo>(&mut self, memo: &mut M)
         requires fresh { IsFresh self.old }
         requires deep { 2 ≤ self.old.depth }
@@ -195,7 +193,7 @@ impl Search {
         self.steps = self.steps.saturating_add(1);
     }
 
-    /// Answers a root with one ply left or none, in one step.
+    /// Answers a root with at most one ply left, in one step.
     fn answer_root<M: Memo>(&mut self, memo: &mut M) -> Option<Found>
         requires fresh { IsFresh self.old }
         requires last { self.old.depth < 2 }
@@ -213,7 +211,7 @@ impl Search {
         self.found
     }
 
-    /// Makes its steps below the root.
+    /// Makes up to `budget` steps below the root.
     fn resume<M: Memo>(&mut self, memo: &mut M, budget: u64) -> Option<Found>
         requires { IsUnderWay self.old }
         ensures finds { Finds self.old result self.new }
@@ -230,7 +228,7 @@ impl Search {
         self.found
     }
 
-    /// What is found where the memo's answer for the root says enough.
+    /// The result, if the memo's entry for the root is conclusive.
     fn probe_root<M: Memo>(&self, memo: &mut M) -> Option<Found>
         ensures below { IfSome result (IsFoundBy self.now) }
         ensures steps { IfSome result (λ f. f.steps ≡ self.now.steps) }
@@ -246,23 +244,23 @@ impl Search {
         Some(found_of(&entry, root, e, depth, beta, self.steps))
     }
 
-    /// Continues by so many steps, or fewer where it ends, and then returns what it found. After the
-    /// end it returns the same again, without a step or a call of the memo.
+    /// Makes up to `budget` steps, and returns the result once the search has ended. From then on
+    /// it returns that again, without a step or a call of the memo.
     pub fn advance<M: Memo>(&mut self, memo: &mut M, budget: u64) -> Option<Found>
         ensures finds { Finds self.old result self.new }
-        // Until the end the whole budget is used, and then nothing is left.
+        // Until the end the whole budget is used; at the end nothing is left.
         ensures slice { IsSliceOf budget self.old result self.new }
         ensures calls { CallsOfSearch M.called memo.old memo.new self.old self.new }
-        // Its first call asks for the root, and is the only one where the answer says enough.
+        // The first call probes the root, and is the only one if the entry is conclusive.
         ensures asked { AsksRootFirst M.called (M.answers memo.old) memo.old memo.new self.old }
-        // Its last call says what it found of the root.
+        // The last call tells the result at the root.
         ensures told { TellsFound M.called memo.old memo.new self.old result }
         ensures capacity { M.capacity memo.new ≡ M.capacity memo.old }
 
         ensures again { ForSome self.old.found (λ f. (result ≡ Some f) × (self.new ≡ self.old)) }
         ensures idle { IsSome self.old.found → memo.new ≡ memo.old }
         ensures begun { 0 < budget → IfNone result (self.new.started ≡ true) }
-        // Before the first step an answer for the root that says enough ends it.
+        // Before the first step a conclusive entry of the root ends the search.
         ensures enough { EndsWhereAnswered (M.answers memo.old) result self.old self.new }
         ensures known { EndsWhereKnown (M.answers memo.old) result self.old self.new }
     {
