@@ -1,4 +1,4 @@
--- Calls of a memory, one after another.
+-- Sequences of calls of a memory, and their counts.
 use Rattle.std.proofs.Common.{◌≡◌, ◌≤◌, ◌+◌, ◌-◌, ◌*◌, ◌^◌, ℕ, Option, List, [], ◌∷◌, ◌++◌, refl, subst, arith, ◌∙◌}
 use Rattle.std.specs.Prelude.{min}
 use Rattle.std.proofs.lemmas.List.Sums.{sum_by-append}
@@ -9,7 +9,7 @@ use Rattle.shogi_search.specs.Stack.{OnlyAsks}
 use Rattle.shogi_search.specs.declared.memo.Memo.{Ghosts}
 use Rattle.shogi_search.specs.Calls.{Call, Probe, Note, AreCalled, Asks, CallsInSteps, EndsWith, TellsOnce, question_of, telling_of}
 
--- calls and then further ones
+-- two sequences of calls join
 pub calls_and_calls : {M : Type 0} (called : M → Call → M → Type 0) (a b c : M) (xs ys : List Call)
     → AreCalled called a xs b → AreCalled called b ys c → AreCalled called a (xs ++ ys) c
 unfolding AreCalled
@@ -17,18 +17,18 @@ calls_and_calls called a b c [] ys first second = subst (λ m. AreCalled called 
 calls_and_calls called a b c (x ∷ xs) ys first second =
     (first.0, (first.1.0, calls_and_calls called first.0 b c xs ys first.1.1 second))
 
--- a call alone
+-- one call is a sequence
 pub one_call : {M : Type 0} (called : M → Call → M → Type 0) (a b : M) (call : Call) → called a call b
     → AreCalled called a (call ∷ []) b
 unfolding AreCalled
 one_call called a b call one = (b, (one, refl))
 
--- no call
+-- no call is a sequence
 pub no_calls : {M : Type 0} (called : M → Call → M → Type 0) (a : M) → AreCalled called a [] a
 unfolding AreCalled
 no_calls called a = refl
 
--- steps and then further ones, with counts that add up
+-- steps and further steps join, and their counts add up
 pub joined : {M : Type 0} {called : M → Call → M → Type 0} {a b c : M} {s t x y p s' t' x' y' p' : ℕ} (u v z w q : ℕ)
     → CallsInSteps called a b s t x y p → CallsInSteps called b c s' t' x' y' p'
     → ((m n : ℕ) → t ≡ min (s + m) (2 ^ 64 - 1) → t' ≡ min (s' + n) (2 ^ 64 - 1) → v ≡ min (u + (m + n)) (2 ^ 64 - 1))
@@ -48,12 +48,12 @@ pub steps_and_steps : {M : Type 0} {called : M → Call → M → Type 0} {a b c
     → CallsInSteps called a b s t x y p → CallsInSteps called b c t u y z q → CallsInSteps called a c s u x z (p + q)
 steps_and_steps {s = s} {u = u} {x = x} {z = z} {p = p} {q = q} first second = joined s u x z (p + q) first second (λ m n e f. omega arith) (omega arith) (omega arith)
 
--- questions come first
+-- probes may precede the steps
 pub asked_first : {M : Type 0} {called : M → Call → M → Type 0} {a b c : M} {s t x y p q : ℕ}
     → Asks called a b p → CallsInSteps called b c s t x y q → CallsInSteps called a c s t x y (p + q)
 asked_first {s = s} {t = t} {x = x} {y = y} {p = p} {q = q} first second = joined s t x y (p + q) first second (λ m n e f. omega arith) (omega arith) (omega arith)
 
--- no call is made, and no step
+-- without a call and a step the memory stays
 pub stays : {M : Type 0} (called : M → Call → M → Type 0) (a : M) (s t x p : ℕ) → t ≡ min (s + 0) (2 ^ 64 - 1)
     → CallsInSteps called a a s t x x p
 stays called a s t x p counted = record {
@@ -67,14 +67,14 @@ stays called a s t x p counted = record {
   walked = omega arith;
 }
 
--- the same, with equal numbers, or fewer questions
+-- equal counts may be put for counts, and more probes allowed
 pub as_counted : {M : Type 0} {called : M → Call → M → Type 0} {a b : M} {s s' t t' x x' y y' p q : ℕ}
     → CallsInSteps called a b s t x y p → s' ≡ s → t' ≡ t → x' ≡ x → y' ≡ y → p ≤ q
     → CallsInSteps called a b s' t' x' y' q
 as_counted {called = called} {b = b} {s' = s'} {t' = t'} {x' = x'} {y' = y'} {q = q} k es et ex ey fits =
     joined s' t' x' y' q k (stays called b 0 0 0 0 refl) (λ m n e f. omega arith) (omega arith) (omega arith)
 
--- a memory is asked once, not at all, no more than so often, or again, with what it holds at most
+-- one call probes at most once; no call, a greater limit, and a further probe also keep to a limit, and all keep the capacity
 pub only_asks_one : {M : Type 0} (memory : Ghosts M) (a b : M) (p : Shogi) (e : Eval) (d : ℕ) (answer : Option Entry)
     → memory.called a (Probe p e d answer) b → memory.capacity b ≡ memory.capacity a → OnlyAsks memory a b 1
 only_asks_one memory a b p e d answer one same = record {
@@ -104,7 +104,7 @@ asks_further first second fits = record {
   capacity = second.capacity ∙ first.capacity;
 }
 
--- after the calls
+-- calls may precede a last call
 pub ends_after : {M : Type 0} {called : M → Call → M → Type 0} {a b c : M} {s t x y p : ℕ} {last : Call}
     → CallsInSteps called a b s t x y p → EndsWith called b c last → EndsWith called a c last
 ends_after {called = called} {a = a} {b = b} first second = record {
@@ -114,11 +114,11 @@ ends_after {called = called} {a = a} {b = b} first second = record {
   ends = second.ends;
 }
 
--- a call alone is the last one
+-- one call is the last call
 pub ends_at_once : {M : Type 0} {called : M → Call → M → Type 0} {a b : M} {last : Call} → called a last b → EndsWith called a b last
 ends_at_once {called = called} {a = a} one = record { calls = []; before = a; each = no_calls called a; ends = one }
 
--- a note
+-- one note notes at most once
 pub tells_note : {M : Type 0} (called : M → Call → M → Type 0) (a b : M) (p : Shogi) (e : Eval) (d : ℕ)
     (entry : Entry) → called a (Note p e d entry) b → TellsOnce called a b
 tells_note called a b p e d entry one = record {
@@ -128,11 +128,11 @@ tells_note called a b p e d entry one = record {
   asked = refl;
 }
 
--- no note
+-- no call notes at most once
 pub tells_none : {M : Type 0} (called : M → Call → M → Type 0) (a : M) → TellsOnce called a a
 tells_none called a = record { calls = []; each = no_calls called a; told = omega arith; asked = refl }
 
--- a step tells the memory once at most and then asks it: it leaves a node, walks the line, or enters one
+-- a step makes at most one note and then probes: it leaves a node, walks the line, or enters a node
 pub told_in_step : {M : Type 0} {called : M → Call → M → Type 0} {a b c : M} {s t x y most : ℕ} (walks : ℕ)
     → TellsOnce called a b → Asks called b c most
     → t ≡ min (s + 1) (2 ^ 64 - 1) → most + x ≤ 1 + y + 14 * walks → 2 * walks + y ≤ 1 + x
@@ -148,7 +148,7 @@ told_in_step {called = called} {a = a} {b = b} {c = c} walks k line counted fits
   walked = omega (arith, falls);
 }
 
--- a step that only asks
+-- a step may probe alone
 pub asks_in_step : {M : Type 0} {called : M → Call → M → Type 0} {a b : M} {s t x y p : ℕ}
     → Asks called a b p → t ≡ min (s + 1) (2 ^ 64 - 1) → p + x ≤ 1 + y → y ≤ 1 + x → CallsInSteps called a b s t x y 0
 asks_in_step {called = called} {a = a} k counted fits rises = told_in_step 0 (tells_none called a) k counted (omega arith) (omega arith)

@@ -1,4 +1,4 @@
--- What a true entry of a root says is found of it.
+-- What a true and conclusive entry of a root says of the result.
 use Rattle.std.proofs.Common.{◌≡◌, ◌≤◌, ℕ, ℤ, ◌≤ℤ◌, ◌<ℤ◌, Option, Some, None, sym, ◌∙◌, arith, subst}
 use Rattle.std.proofs.lemmas.Int.{ints}
 use Rattle.shogi_core.specs.declared.moves.Move.{Move}
@@ -17,7 +17,7 @@ use Rattle.minimax.specs.declared.bounds.TheConstants.{SEARCH_DEPTH_MAX, INFINIT
 pub same_window : (alpha alpha' beta beta' : ℤ) (e : Entry) → alpha ≡ alpha' → beta ≡ beta' → IsConclusive alpha beta e → IsConclusive alpha' beta' e
 same_window alpha alpha' beta beta' e p q s = rw (← p, ← q) s
 
--- a true value at or below the whole window there is not
+-- a conclusive entry under the lowest alpha is no upper bound
 pub not_at_most : (p : Shogi) (eval : Eval) (d : ℕ) (e : Entry) (v beta : ℤ) → IsValid p → d ≤ SEARCH_DEPTH_MAX → IsTrueEntry p eval d e → IsConclusive (negated INFINITY) beta e → e ≡ AtMost v → ⊥
 not_at_most p eval d e v beta ok h t s q =
     let k : value p eval d ≤ℤ v = subst (λ (x : Entry). IsTrueEntry p eval d x) q t in
@@ -25,7 +25,7 @@ not_at_most p eval d e v beta ok h t s q =
     let w : Within d (value p eval d) = value_within d p eval ok in
     omega (arith, ints)
 
--- what a true entry says is found
+-- a true exact entry gives the result
 pub exact_found : (p : Shogi) (eval : Eval) (d : ℕ) (e : Entry) (v beta : ℤ) (m : Option Move) (f : Found) → IsValid p → d ≤ SEARCH_DEPTH_MAX → IsTrueEntry p eval d e → e ≡ Exact v m → f.value ≡ v → f.best ≡ m → IsFoundBelow p eval d beta f
 exact_found p eval d e v beta m f ok h t q a b =
     let k : IsTrueEntry p eval d (Exact v m) = subst (λ (x : Entry). IsTrueEntry p eval d x) q t in
@@ -34,7 +34,7 @@ exact_found p eval d e v beta m f ok h t q a b =
     let first : best p eval d ≡ f.best = k.1 ∙ sym b in
     record { value_is = λ _. a ∙ sym same; best_is = λ _. sym first; lower = omega (arith, ints); best_is_true = λ n q. first ∙ q; least = omega (arith, ints); most = omega (arith, ints) }
 
--- and what a true bound that is at or above the window
+-- a true lower bound that reaches beta gives the result
 pub at_least_found : (p : Shogi) (eval : Eval) (d : ℕ) (e : Entry) (v beta : ℤ) (f : Found) → IsValid p → d ≤ SEARCH_DEPTH_MAX → negated INFINITY <ℤ beta → IsTrueEntry p eval d e → IsConclusive (negated INFINITY) beta e → e ≡ AtLeast v → f.value ≡ v → f.best ≡ None → IsFoundBelow p eval d beta f
 at_least_found p eval d e v beta f ok h above t s q a b =
     let k : v ≤ℤ value p eval d = subst (λ (x : Entry). IsTrueEntry p eval d x) q t in
@@ -49,7 +49,7 @@ at_least_found p eval d e v beta f ok h above t s q a b =
       most = omega (arith, ints);
     }
 
--- below the end of the whole window lies every value
+-- a result under the full window has the value
 pub whole_value : (p : Shogi) (eval : Eval) (d : ℕ) (beta : ℤ) (f : Found) → IsFoundBelow p eval d beta f → beta ≡ INFINITY → f.value ≡ value p eval d
 whole_value p eval d beta f h e = h.value_is (let m : f.value <ℤ INFINITY = h.most in omega (arith, ints))
 
@@ -59,6 +59,6 @@ whole_best p eval d beta f h e = h.best_is (let m : f.value <ℤ INFINITY = h.mo
 pub same_truth : (p p' : Shogi) (eval eval' : Eval) (d d' : ℕ) (e : Entry) → p ≡ p' → eval ≡ eval' → d ≡ d' → IsTrueEntry p eval d e → IsTrueEntry p' eval' d' e
 same_truth p p' eval eval' d d' e a k b t = rw (← a, ← k, ← b) t
 
--- what is found of the same position, below the same bound
+-- a result is carried over to an equal question
 pub same_found : (p p' : Shogi) (eval eval' : Eval) (d d' : ℕ) (beta beta' : ℤ) (f : Found) → p ≡ p' → eval ≡ eval' → d ≡ d' → beta ≡ beta' → IsFoundBelow p eval d beta f → IsFoundBelow p' eval' d' beta' f
 same_found p p' eval eval' d d' beta beta' f a e h b k = rw (← a, ← e, ← h, ← b) k

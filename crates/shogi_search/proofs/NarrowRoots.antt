@@ -1,4 +1,4 @@
--- A root whose window is narrowed for a move of it, and made whole again.
+-- A root's window is narrowed for one of its moves, and made whole again.
 use Rattle.std.proofs.Common.{◌≡◌, ◌<◌, ◌≤◌, ◌+◌, ◌-◌, ◌≤ℤ◌, ℤ, ℕ, [], ◌∷◌, ◌++◌, length, take, get_or, refl, ◌∙◌, arith}
 use Rattle.std.specs.Prelude.{sum_by}
 use Rattle.std.proofs.lemmas.Int.{ints}
@@ -17,11 +17,11 @@ use Rattle.shogi_search.proofs.Again.{left_narrow, left_root}
 use Rattle.shogi_search.proofs.Chains.{IsChild, left_above, same_asked}
 use Rattle.shogi_search.proofs.Places.{HasTop, IsBelow, IsTop, below, found_same, has_top, left_in, left_read, of_top, on_top, on_with, stack_with, top_with, with_frame}
 
--- with another end of the window for now
+-- the stack with another bound
 abbrev pub with_bound : Stack → ℤ → Stack
 with_bound s bound = record s { bound = bound }
 
--- the first frame stands for the root
+-- the first frame is the root
 pub first_at : (s : Stack) (i : ℕ) (f : Frame) → i ≡ 0 → IsChain s.root s.eval s.depth (negated INFINITY) s.bound (take i s.frames) f → IsAt s.root s.eval s.depth (negated INFINITY) s.bound f
 first_at s i f e c = (rw e at c)
 
@@ -30,17 +30,17 @@ stack_ending s i f g bound e fits k at same ends within found =
     stack_with (with_bound s bound) i g fits (omega (arith, e)) k.shallow within k.most
     (rw e (grind (arith, at, same, ends))) found
 
--- as much is left of it
+-- as many steps are left to a frame that keeps its moves
 asked_kept : (f g : Frame) → KeepsAsked f g → left_of_frame g ≡ left_of_frame f
 asked_kept f g same = grind arith
 
--- of a root alone all is left twice
+-- a root alone on the stack counts its steps left twice
 left_alone : (s : Stack) (f : Frame) → IsTop s f → s.height ≡ 0 → f.depth ≡ s.depth → steps_left s ≡ left_of_frame f + left_of_frame f
 left_alone s f is e d =
     let none : sum_by (left_in s) (parents_of s) ≡ 0 = rw e refl in
     omega (arith, none, left_read s f is, left_root s.depth s.bound s.beta f d)
 
--- ---- narrowed
+-- ---- narrowing
 
 pub narrowed : (s : Stack) (f g : Frame) (bound : ℤ) → IsTop s f → IsStack s → s.height ≡ 0 → KeepsAsked f g → g.beta ≡ bound → bound ≤ℤ s.beta → IsStack (with_frame (with_bound s bound) s.height g)
 narrowed s f g bound is k e same ends within =
@@ -58,22 +58,22 @@ top_narrowed s f g bound is same =
     of_top s f (λ (old : Frame). OnTop (with_frame (with_bound s bound) s.height g) (λ new. KeepsAsked old new)) is
     (on_with (with_bound s bound) s.height g (KeepsAsked f) (slice_get_within s.frames s.height f is) same)
 
--- where nothing was
+-- an unchanged stack keeps its top
 pub top_same : (s : Stack) (f : Frame) → IsTop s f → OnTop s (λ old. OnTop s (λ new. KeepsAsked old new))
 top_same s f is =
     of_top s f (λ (old : Frame). OnTop s (λ new. KeepsAsked old new)) is
     (of_top s f (KeepsAsked f) is (refl, (refl, (refl, (refl, (refl, (refl, refl)))))))
 
--- what is handed over for the move of a stack before is handed over after
+-- narrowing keeps the steps allowed for a move
 pub uses_after : (s n t : Stack) (f : Frame) (m : Move) → IsTop s f → OnTop s (λ old. OnTop n (λ new. KeepsAsked old new)) → n.depth ≡ s.depth → steps_left n ≡ steps_left s → UsesSteps n t m 1 → UsesSteps s t m 1
 uses_after s n t f m is top d left uses =
     of_top s f (λ (old : Frame). steps_left t + 1 ≤ steps_left s + steps_for s.depth old m) is
     (let kept : HasTop n (KeepsAsked f) = has_top n _ (on_top s f (λ (old : Frame). OnTop n (λ new. KeepsAsked old new)) is top) in
     grind (arith, kept.has, on_top n kept.top (λ (new : Frame). steps_left t + 1 ≤ steps_left n + steps_for n.depth new m) kept.is uses))
 
--- ---- made whole again
+-- ---- widening
 
--- the root below a child of it
+-- the root stands below its child on top
 pub record IsRootBelow (s : Stack) (m : Move) (f : Frame) : Type 0 where
   pub top : Frame
   pub is : IsTop s top

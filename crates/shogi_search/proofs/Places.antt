@@ -23,22 +23,22 @@ use Rattle.search_nodes.proofs.Passing.{left_kept}
 use Rattle.shogi_search.proofs.Chains.{chain_deep, IsChild, IsPopped, chain_pop, chain_push, chain_same, chain_height, same_asked, left_above}
 use Rattle.minimax.specs.declared.bounds.TheConstants.{SEARCH_DEPTH_MAX, INFINITY}
 
--- this frame is on top of the stack
+-- the frame is on top of the stack
 abbrev pub IsTop : Stack → Frame → Type 0
 IsTop s f = slice_get s.frames s.height ≡ Some f
 
--- one frame is on top
+-- only one frame is on top
 pub one_top : (s : Stack) (f h : Frame) → IsTop s f → IsTop s h → f ≡ h
 one_top s f h a b = cc
 
--- what holds of the node on top holds of that frame, and back
+-- a fact of the node on top is a fact of that frame, and back
 pub on_top : (s : Stack) (f : Frame) (fact : Frame → Type 0) → IsTop s f → OnTop s fact → fact f
 on_top s f fact e h = subst (λ (o : Option Frame). IsSomeAnd o fact) e h
 
 pub of_top : (s : Stack) (f : Frame) (fact : Frame → Type 0) → IsTop s f → fact f → OnTop s fact
 of_top s f fact e h = subst (λ (o : Option Frame). IsSomeAnd o fact) (sym e) h
 
--- some frame is on top, where something holds of it
+-- if a fact holds of the node on top, there is one
 pub record HasTop (s : Stack) (fact : Frame → Type 0) : Type 0 where
   pub top : Frame
   pub is : IsTop s top
@@ -51,14 +51,14 @@ has_top s fact h = has (slice_get s.frames s.height) refl h
     has None e h = absurd h
     has (Some f) e h = record { top = f; is = e; has = h }
 
--- what holds of the node on top may be exchanged for what follows from it
+-- a fact of the node on top may be weakened
 pub on_map : (s : Stack) (P Q : Frame → Type 0) → ((f : Frame) → P f → Q f) → OnTop s P → OnTop s Q
 on_map s P Q g h = let t : HasTop s P = has_top s P h in of_top s t.top Q t.is (g t.top t.has)
 
 take_next : (xs : List Frame) (i : ℕ) (f : Frame) → slice_get xs i ≡ Some f → take (i + 1) xs ≡ take i xs ++ f ∷ []
 take_next xs i f e = grind (arith, take_more xs i f, slice_get_within xs i f e, get_or_from_slice_get xs i f f e)
 
--- the frames are those that wait for a child, and the one on top
+-- the frames are those that wait for a child, and the top
 pub frames_are : (s : Stack) (f : Frame) → IsTop s f → frames_of s ≡ parents_of s ++ f ∷ []
 frames_are s f e = take_next s.frames s.height f e
 
@@ -67,19 +67,19 @@ set_there [] i f h = absurd (omega arith)
 set_there (x ∷ xs) zero f h = refl
 set_there (x ∷ xs) (suc i) f h = set_there xs i f (omega arith)
 
--- a stack whose top is this frame, at this place among its frames
+-- the stack with this frame on top, at this index
 abbrev pub with_frame : Stack → ℕ → Frame → Stack
 with_frame s i f = record s { frames = set s.frames i f; height = i }
 
--- a stack with what was found of replies
+-- the stack with another reply cache
 abbrev pub with_cache : Stack → ReplyCache → Stack
 with_cache s cache = record s { reply_cache = cache }
 
--- what was found of a position is true of a frame that stands for it
+-- a cache that is true of a position is true of its frame
 pub found_at : (f : Frame) (p : Shogi) (e : Eval) (cache : ReplyCache) → f.node.position ≡ p → f.node.eval ≡ e → IsReplyCacheOf (record { position = p; eval = e }) cache → IsFoundAt f cache
 found_at f p e cache here under of = λ two. rw (here, under) of
 
--- and of one in the same place
+-- a cache stays true in a frame of the same node and depth
 pub found_same : (f g : Frame) (cache : ReplyCache) → g.node ≡ f.node → g.depth ≡ f.depth → IsFoundAt f cache → IsFoundAt g cache
 found_same f g cache node depth found = λ two. rw node (found (sym depth ∙ two))
 
@@ -89,7 +89,7 @@ top_with s i f h = set_there s.frames i f h
 pub on_with : (s : Stack) (i : ℕ) (f : Frame) (fact : Frame → Type 0) → i < length s.frames → fact f → OnTop (with_frame s i f) fact
 on_with s i f fact h k = of_top (with_frame s i f) f fact (top_with s i f h) k
 
--- what is left at a frame of the stack
+-- the steps left to a frame of the stack
 abbrev pub left_in : Stack → Frame → ℕ
 left_in s f = left_at s.depth s.bound s.beta f
 
@@ -107,22 +107,22 @@ stack_with s i f h fits shallow within most c found = record {
   found = on_with s i f (λ (top : Frame). IsFoundAt top s.reply_cache) h found;
 }
 
--- the node on top, as it is read at the height
+-- the frame at the index of the height is on top
 pub read_top : (s : Stack) (d : Frame) → s.height < length s.frames → IsTop s (get_or s.frames s.height d)
 read_top s d h = slice_get-get_or s.frames s.height d h
 
--- what holds of it holds of it as it is read
+-- a fact of the node on top holds of the frame at that index
 pub read_on : (s : Stack) (d : Frame) (fact : Frame → Type 0) → s.height < length s.frames → OnTop s fact → fact (get_or s.frames s.height d)
 read_on s d fact fits k = on_top s (get_or s.frames s.height d) fact (read_top s d fits) k
 
 pub left_read : (s : Stack) (f : Frame) → IsTop s f → steps_left s ≡ sum_by (left_in s) (parents_of s) + left_in s f
 left_read s f e = left_above (left_in s) (frames_of s) (parents_of s) f (frames_are s f e)
 
--- the node on top is changed in its place
+-- the node on top may change in its place
 pub changed : (s : Stack) (f g : Frame) → IsTop s f → IsStack s → IsSame f g → IsStack (with_frame s s.height g)
 changed s f g e k same = stack_with s s.height g (slice_get_within s.frames s.height f e) k.height_fits k.shallow k.within k.most (chain_same _ _ _ _ _ _ f g (on_top s f _ e k.chain) same) (found_same f g s.reply_cache same.0 same.1.0 (on_top s f (λ (top : Frame). IsFoundAt top s.reply_cache) e k.found))
 
--- and so is what was found of replies
+-- the node on top and the reply cache may change together
 pub looked : (s : Stack) (f g : Frame) (cache : ReplyCache) → IsTop s f → IsStack s → IsSame f g → IsFoundAt g cache → IsStack (with_frame (with_cache s cache) s.height g)
 looked s f g cache e k same found = stack_with (with_cache s cache) s.height g (slice_get_within s.frames s.height f e) k.height_fits k.shallow k.within k.most (chain_same _ _ _ _ _ _ f g (on_top s f _ e k.chain) same) found
 
@@ -133,14 +133,14 @@ left_changed s f g e = omega (arith, left_with s s.height g (slice_get_within s.
 pub depth_most : (s : Stack) (f : Frame) → IsTop s f → IsStack s → f.depth ≤ s.depth
 depth_most s f e k = omega (arith, chain_height s.root s.eval s.depth (negated INFINITY) s.bound (parents_of s) f (on_top s f _ e k.chain))
 
--- there is room above a node that waits for a child
+-- there is room above a node with more than one ply left
 pub room : (s : Stack) (f : Frame) → IsTop s f → IsStack s → 1 < f.depth → s.height + 1 < 16
 room s f e k deep =
     let c : IsChain s.root s.eval s.depth (negated INFINITY) s.bound (parents_of s) f = on_top s f _ e k.chain in
     let fits : s.height < length s.frames = slice_get_within s.frames s.height f e in
     omega (arith, chain_height s.root s.eval s.depth (negated INFINITY) s.bound (parents_of s) f c, length-take-le s.height s.frames (omega arith), k.shallow)
 
--- the node below the top, as it is read there
+-- the frame below the top, read at its index, is the top's parent
 pub record IsBelow (s : Stack) (f : Frame) : Type 0 where
   pub top : Frame
   pub is : IsTop s top
@@ -157,14 +157,14 @@ below s d k h fits =
 pub asked_below : (s : Stack) (d : Frame) → IsStack s → 0 < s.height → s.height < length s.frames → ((m : Move) → (get_or s.frames (s.height - 1) d).state ≡ AwaitingChild m → ⊥) → ⊥
 asked_below s d k h fits none = let r : IsBelow s (get_or s.frames (s.height - 1) d) = below s d k h fits in none r.popped.by r.popped.child.asks
 
--- the node on top has two plies left or more, and so has the one below it
+-- the node on top has at least two plies left
 pub top_deep : (s : Stack) (f : Frame) → IsTop s f → IsStack s → 1 < f.depth
 top_deep s f is k = chain_deep _ _ _ _ _ (parents_of s) f (on_top s f _ is k.chain)
 
 pub below_deep : (s : Stack) (d : Frame) → IsStack s → 0 < s.height → s.height < length s.frames → 1 < (get_or s.frames (s.height - 1) d).depth
 below_deep s d k h fits = chain_deep _ _ _ _ _ _ _ (below s d k h fits).popped.chain
 
--- what is known of the node on top is known of the child that the one below it has asked for
+-- an entry of the node on top is an entry of the child that its parent waits for
 pub entry_below : (s : Stack) (d : Frame) (m : Move) (entry : Entry) → IsStack s → 0 < s.height → s.height < length s.frames → (get_or s.frames (s.height - 1) d).state ≡ AwaitingChild m → OnTop s (λ top. IsEntryOf top entry)
     → IsConclusiveEntry (position_after (get_or s.frames (s.height - 1) d) m) (get_or s.frames (s.height - 1) d).node.eval ((get_or s.frames (s.height - 1) d).depth - 1) (negated (get_or s.frames (s.height - 1) d).beta) (negated (move_alpha_of (get_or s.frames (s.height - 1) d) m)) entry
 entry_below s d m entry k h fits asks known =
@@ -172,7 +172,7 @@ entry_below s d m entry k h fits asks known =
     let q : IsChild (get_or s.frames (s.height - 1) d) r.top m = same_asked _ _ _ _ r.popped.child asks in
     rw (← q.at_child.position, ← q.at_child.eval, ← q.at_child.depth, ← q.at_child.alpha_is, ← q.at_child.beta_is) (on_top s r.top (λ (top : Frame). IsEntryOf top entry) r.is known)
 
--- the node below takes in what is known, and is on top
+-- once the top is popped, its parent is on top
 pub stack_popped : (s : Stack) (d g : Frame) → IsStack s → 0 < s.height → s.height < length s.frames → IsSame (get_or s.frames (s.height - 1) d) g → IsStack (with_frame s (s.height - 1) g)
 stack_popped s d g k h fits same =
     let r : IsBelow s (get_or s.frames (s.height - 1) d) = below s d k h fits in
@@ -187,23 +187,23 @@ left_popped s d g k h fits same picker =
     let r : IsBelow s f = below s d k h fits in
     omega (arith, l, left_with s (s.height - 1) g (omega arith), left_read s r.top r.is, left_above (left_in s) (parents_of s) (take (s.height - 1) s.frames) f r.parents)
 
--- something is left of a stack
+-- a stack has steps left
 pub left_positive : (s : Stack) → IsStack s → 0 < steps_left s
 left_positive s k =
     let t : HasTop s (IsChain s.root s.eval s.depth (negated INFINITY) s.bound (parents_of s)) = has_top s _ k.chain in
     omega (arith, left_read s t.top t.is)
 
--- the child after the move that the node on top has asked for is entered above it
+-- once the child is pushed, it is on top
 pub stack_entered : (s : Stack) (f g : Frame) (m : Move) (cache : ReplyCache) → IsTop s f → IsStack s → f.state ≡ AwaitingChild m → 0 < f.depth → s.height + 1 < SEARCH_DEPTH_MAX → s.height + 1 < length s.frames → IsAt (position_after f m) f.node.eval (f.depth - 1) (negated f.beta) (negated (move_alpha_of f m)) g → IsFoundAt g cache → IsStack (with_frame (with_cache s cache) (s.height + 1) g)
 stack_entered s f g m cache is k asks more low fits place found =
     stack_with (with_cache s cache) (s.height + 1) g fits low k.shallow k.within k.most
     (rw (frames_are s f is) (chain_push _ _ _ _ _ (parents_of s) f g m (on_top s f _ is k.chain) (record { deep = omega (arith, more); asks = asks; at_child = place }))) found
 
--- a node is entered, and none of its moves is gone through
+-- a node just entered has fewer steps left than two for each node of its tree
 pub frame_entered : (f : Frame) (p : Shogi) (e : Eval) (d : ℕ) (alpha beta : ℤ) → IsAt p e d alpha beta f → IsWithinTree p d f.picker → left_of_frame f < 2 * tree_size p d
 frame_entered f p e d alpha beta place counted = rw (place.position, place.depth) counted
 
--- the root is entered, and each of its moves may be asked twice
+-- a root just entered has fewer steps left than four for each node of its tree
 pub left_begun : (s : Stack) (f : Frame) (p : Shogi) (e : Eval) (alpha beta : ℤ) → 0 < length s.frames → IsAt p e s.depth alpha beta f → IsWithinTree p s.depth f.picker → steps_left (with_frame s 0 f) + 1 < 4 * tree_size p s.depth
 left_begun s f p e alpha beta fits place counted =
     omega (arith, frame_entered f p e s.depth alpha beta place counted, left_with s 0 f fits, left_root s.depth s.bound s.beta f place.depth)
@@ -215,27 +215,27 @@ left_child s f g m e alpha beta is k deep fits place counted =
     of_top s f (λ (top : Frame). steps_left (with_frame s (s.height + 1) g) + 1 ≤ steps_left s + steps_for s.depth top m) is
     (omega (arith, less, left_with s (s.height + 1) g fits))
 
--- under the whole window of the root its tree is counted once
+-- while the root has its whole window, entering a child takes the steps for its tree once
 pub left_once : (s : Stack) (f g : Frame) (m : Move) (e : Eval) (alpha beta : ℤ) → IsTop s f → IsStack s → 0 < f.depth → s.bound ≡ s.beta → s.height + 1 < length s.frames → IsAt (position_after f m) e (f.depth - 1) alpha beta g → IsWithinTree (position_after f m) (f.depth - 1) g.picker → OnTop s (λ top. steps_left (with_frame s (s.height + 1) g) + 1 ≤ steps_left s + steps_after top m)
 left_once s f g m e alpha beta is k deep whole fits place counted =
     let low : g.depth < s.depth = omega (arith, place.depth, deep, depth_most s f is k) in
     of_top s f (λ (top : Frame). steps_left (with_frame s (s.height + 1) g) + 1 ≤ steps_left s + steps_after top m) is
     (omega (arith, left_whole s.depth s.bound s.beta g low whole, frame_entered g _ e _ alpha beta place counted, left_with s (s.height + 1) g fits))
 
--- the node on top has gone on with a move
+-- backing up a move at the top takes one step
 pub left_visited : (s : Stack) (m : Move) (f g : Frame) → IsTop s f → IsSame f g → g.picker ≡ f.picker → UsesSteps s (with_frame s s.height g) m 1
 left_visited s m f g is same picker =
     of_top s f (λ (top : Frame). steps_left (with_frame s s.height g) + 1 ≤ steps_left s + steps_for s.depth top m) is
     (omega (arith, left_changed s f g is, left_stays s.depth s.bound s.beta f g same (left_kept f g same picker), tree_size-positive (position_after f m) (f.depth - 1)))
 
--- a move is asked for, and gone on with
+-- picking a move and going on with it takes its steps
 pub left_descended : (s t : Stack) (m : Move) (f g : Frame) (n : ℕ) → IsTop s f → IsSame f g → steps_after g m + left_of_frame g ≤ left_of_frame f → UsesSteps (with_frame s s.height g) t m n → steps_left t + n ≤ steps_left s
 left_descended s t m f g n is same less l =
     let k : steps_left t + n ≤ steps_left (with_frame s s.height g) + steps_for s.depth g m = on_top (with_frame s s.height g) g (λ (top : Frame). steps_left t + n ≤ steps_left (with_frame s s.height g) + steps_for s.depth top m) (top_with s s.height g (slice_get_within s.frames s.height f is)) l in
     let taken : left_in s g + steps_for s.depth g m ≤ left_in s f = left_taken s.depth s.bound s.beta f g (steps_after g m) same (omega (arith, less)) in
     omega (arith, k, left_changed s f g is, taken)
 
--- no move is asked for, and no more is left
+-- without a picked move, no more steps are left than before
 pub left_passed : (s : Stack) (f g : Frame) → IsTop s f → IsSame f g → left_of_frame g ≤ left_of_frame f → steps_left (with_frame s s.height g) ≤ steps_left s
 left_passed s f g is same less =
     omega (arith, left_changed s f g is, left_taken s.depth s.bound s.beta f g 0 same (omega (arith, less)))

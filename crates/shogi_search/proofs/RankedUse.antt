@@ -1,4 +1,4 @@
--- For callers that offer each legal move once, in the order of codes: the list ends as the first of the ranked moves.
+-- Callers that offer each legal move once, by rising code, end with the best moves of the position.
 use Rattle.std.proofs.Common.{◌≡◌, ◌<◌, ◌≤◌, ◌≤ℤ◌, ◌<ℤ◌, ◌-◌, ℕ, zero, suc, ℤ, List, [], ◌∷◌, ◌++◌, Option, Some, None, true, false, refl, ap, ◌∙◌, sym, arith, map, take, subst, append-nil}
 use Rattle.std.specs.List.{slice_get}
 use Rattle.std.proofs.lemmas.Int.{ints}
@@ -33,16 +33,16 @@ not_in_front c zero ks h = refl
 not_in_front c (suc n) [] h = refl
 not_in_front c (suc n) (k ∷ ks) h = grind (arith, not_in_front c n ks)
 
--- what was not offered is not listed
+-- a move not offered is not listed
 top_not_listed : (f : ℕ → ℤ) (codes : List ℕ) (n c : ℕ) (xs : List (Move × ℤ)) → map coded xs ≡ map (with_worth f) (take n (ranked f codes)) → is_in c codes ≡ false → is_in c (codes_in xs) ≡ false
 top_not_listed f codes n c xs h i = grind (arith, codes_are f xs (take n (ranked f codes)), not_in_front c n (ranked f codes), in_ranked f c codes)
 
--- the codes of a prefix of a rising list are less than the next one
+-- in a rising list the codes before one are less
 rising_front : (xs : List ℕ) (m : ℕ) (ys : List ℕ) → IsRising (xs ++ m ∷ ys) → (n : ℕ) → is_in n xs ≡ true → n < m
 rising_front [] m ys r n i = absurd (cc)
 rising_front (x ∷ xs) m ys r n i = grind (arith, nat_tests, r.0 m (is_in-append_right m xs (m ∷ ys) (first_in m ys)), rising_front xs m ys r.1 n)
 
--- in a rising list no code stands among those before it
+-- in a rising list a code does not stand among those before it
 rising_apart : (xs : List ℕ) (m : ℕ) (ys : List ℕ) → IsRising (xs ++ m ∷ ys) → is_in m xs ≡ false
 rising_apart xs m ys r = grind (arith, rising_front xs m ys r m)
 
@@ -50,7 +50,7 @@ front_distinct : (xs ys : List ℕ) → IsRising (xs ++ ys) → AreDistinct xs
 front_distinct [] ys r = tt
 front_distinct (x ∷ xs) ys r = (grind (arith, r.0 x, is_in-append_left x xs ys), front_distinct xs ys r.1)
 
--- the legal moves up to the one that was passed last were offered
+-- the list has the best of the legal moves up to the one last passed
 pub record IsGoneThrough (p : Shogi) (f : ℕ → ℤ) (passed : Option Move) (r : Ranking) : Type 0 where
   pub seen : List ℕ
   pub whole : seen ++ legal_above p passed ≡ legal_codes p
@@ -59,11 +59,11 @@ pub record IsGoneThrough (p : Shogi) (f : ℕ → ℤ) (passed : Option Move) (r
 not_seen : (p : Shogi) (seen : List ℕ) (m : ℕ) (rest above : List ℕ) → seen ++ above ≡ legal_codes p → above ≡ m ∷ rest → is_in m seen ≡ false
 not_seen p seen m rest above w e = rising_apart seen m rest (subst IsRising (sym w ∙ ap (λ (l : List ℕ). seen ++ l) e) (legal_rising p 0))
 
--- the next move may be offered
+-- the next move is not listed yet
 pub gone_fresh : (p : Shogi) (f : ℕ → ℤ) (passed : Option Move) (r : Ranking) (m : ℕ) (rest : List ℕ) → IsGoneThrough p f passed r → legal_above p passed ≡ m ∷ rest → is_in m (codes_in r.pairs) ≡ false
 gone_fresh p f passed r m rest g e = top_not_listed f g.seen r.lines m r.pairs g.top (not_seen p g.seen m rest (legal_above p passed) g.whole e)
 
--- and then it is gone through
+-- an offer passes the next move
 pub gone_on : (p : Shogi) (f : ℕ → ℤ) (passed : Option Move) (r new : Ranking) (m : Move) → IsGoneThrough p f passed r → legal_above p passed ≡ code_of m ∷ legal_above p (Some m)
     → ((codes : List ℕ) → IsTop f codes r → is_in (code_of m) codes ≡ false → IsTop f (codes ++ code_of m ∷ []) new) → IsGoneThrough p f (Some m) new
 gone_on p f passed r new m g e h = record {
@@ -72,11 +72,11 @@ gone_on p f passed r new m g e h = record {
   top = h g.seen g.top (not_seen p g.seen (code_of m) (legal_above p (Some m)) (legal_above p passed) g.whole e);
 }
 
--- once no move is left, the list is the first of all
+-- once no move is left, the list has the best of all legal moves
 pub gone_all : (p : Shogi) (f : ℕ → ℤ) (passed : Option Move) (r : Ranking) → IsGoneThrough p f passed r → legal_above p passed ≡ [] → IsTop f (legal_codes p) r
 gone_all p f passed r g e = subst (λ (l : List ℕ). IsTop f l r) (sym (append-nil g.seen) ∙ ap (λ (l : List ℕ). g.seen ++ l) (sym e) ∙ g.whole) g.top
 
--- what stands on a line of the first of the codes
+-- the code and the worth on a line
 record IsLineOf (f : ℕ → ℤ) (codes : List ℕ) (n i : ℕ) (w : ℤ) : Type 0 where
   pub code : ℕ
   pub short : i < n
@@ -93,7 +93,7 @@ line_of f (y ∷ ys) (k ∷ ks) (suc n) (suc i) w h e =
     let r : IsLineOf f ks n i w = line_of f ys ks n i w (grind arith) e in
     record { code = r.code; short = omega (arith, r.short); code_is = r.code_is; worth_is = r.worth_is; listed = grind (arith, r.listed) }
 
--- the first of some codes stay so where one behind the last line comes
+-- the best codes do not change if the next one is worth no more than the last line
 top_past : (f : ℕ → ℤ) (codes : List ℕ) (r : Ranking) (w : ℤ) (m : ℕ) → IsTop f codes r → value_to_pass r ≡ Some w → AreDistinct codes → ((n : ℕ) → is_in n codes ≡ true → n < m) → is_in m codes ≡ false → f m ≤ℤ w → IsTop f (codes ++ m ∷ []) r
 top_past f codes r w m t e distinct less i low =
     let l : IsLineOf f (ranked f codes) r.lines (r.lines - 1) w = line_of f r.pairs (ranked f codes) r.lines (r.lines - 1) w t e in
@@ -102,7 +102,7 @@ top_past f codes r w m t e distinct less i low =
     let same : take r.lines (insert_code f m (ranked f codes)) ≡ take r.lines (ranked f codes) = rw n at (rank_past f m (ranked f codes) (r.lines - 1) l.code (ranked_list f codes distinct) l.code_is behind) in
     t ∙ ap (map (with_worth f)) (sym (ap (take r.lines) (ranked_last f codes m i) ∙ same))
 
--- where the list is full, the next move is gone through without an offer if it is worth no more than the last line
+-- if all lines are taken, a move that is worth no more than the last line is passed without an offer
 pub gone_past : (p : Shogi) (f : ℕ → ℤ) (passed : Option Move) (r : Ranking) (m : Move) (w : ℤ) → IsGoneThrough p f passed r → legal_above p passed ≡ code_of m ∷ legal_above p (Some m) → value_to_pass r ≡ Some w → f (code_of m) ≤ℤ w → IsGoneThrough p f (Some m) r
 gone_past p f passed r m w g e v low =
     let rising : IsRising (g.seen ++ code_of m ∷ legal_above p (Some m)) = subst IsRising (sym g.whole ∙ ap (λ (l : List ℕ). g.seen ++ l) e) (legal_rising p 0) in
@@ -113,7 +113,7 @@ gone_past p f passed r m w g e v low =
           (rising_apart g.seen (code_of m) (legal_above p (Some m)) rising) low;
     }
 
--- the value on the last line is that of a position
+-- the value on the last line lies inside the full window
 gone_within : (p : Shogi) (eval : Eval) (d : ℕ) (passed : Option Move) (r : Ranking) (w : ℤ) → IsValid p → d ≤ SEARCH_DEPTH_MAX → IsGoneThrough p (worth p eval d) passed r → value_to_pass r ≡ Some w → (negated INFINITY <ℤ w) × (w <ℤ INFINITY)
 gone_within p eval d passed r w ok h g v =
     let l : IsLineOf (worth p eval d) (ranked (worth p eval d) g.seen) r.lines (r.lines - 1) w = line_of (worth p eval d) r.pairs (ranked (worth p eval d) g.seen) r.lines (r.lines - 1) w g.top v in
@@ -122,7 +122,7 @@ gone_within p eval d passed r w ok h g v =
     let at : worth p eval d l.code ≡ w = l.worth_is in
     (omega (arith, ints), omega (arith, ints))
 
--- the window of the next child is one that a search may be given
+-- the next child's beta is one that a search accepts
 window_within : (o : Option ℤ) → ((w : ℤ) → o ≡ Some w → (negated INFINITY <ℤ w) × (w <ℤ INFINITY)) → (negated INFINITY <ℤ beta_above o) × (beta_above o ≤ℤ INFINITY)
 window_within None h = grind (arith, ints)
 window_within (Some w) h = grind (arith, ints, h w refl)
@@ -134,7 +134,7 @@ past_window : (o : Option ℤ) (v x : ℤ) → x <ℤ INFINITY → x ≤ℤ v �
 past_window None v x most lower at = absurd (omega (arith, ints))
 past_window (Some w) v x most lower at = (w, refl, omega (arith, ints))
 
--- a move that is worth what its child is, and whose child is found to be worth no less than the end of its window, is gone through without an offer
+-- a move whose child is found to be worth its beta or more is passed without an offer
 pub gone_unlisted : (p : Shogi) (eval : Eval) (d : ℕ) (passed : Option Move) (r : Ranking) (m : Move) (q : Shogi) (beta : ℤ) (found : Found) → worth p eval d (code_of m) ≡ negated (value (after_code p (code_of m)) eval d) → IsGoneThrough p (worth p eval d) passed r → legal_above p passed ≡ code_of m ∷ legal_above p (Some m) → q ≡ after_code p (code_of m)
     → IsFoundBelow q eval d beta found → beta ≡ child_beta r → beta ≤ℤ found.value → IsGoneThrough p (worth p eval d) (Some m) r
 gone_unlisted p eval d passed r m q beta found is g e at b same h =

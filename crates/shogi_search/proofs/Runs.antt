@@ -11,11 +11,11 @@ use Rattle.shogi_search.specs.declared.stack.Stack.{Stack}
 use Rattle.shogi_search.proofs.CallLaws.{ends_after, joined, stays}
 use Rattle.shogi_search.proofs.Places.{with_cache, with_frame}
 
--- the goal is still the same
+-- the goal is kept over two steps
 pub kept_on : (s t u : Stack) → KeepsGoal s t → KeepsGoal t u → KeepsGoal s u
 kept_on s t u first second = grind arith
 
--- before the first step
+-- a run of no step
 pub no_run : {M : Type 0} (memory : Ghosts M) (a : M) (steps : ℕ) (s : Stack) → IsReady s
     → IsRunOf memory a a steps (min (steps + 0) (2 ^ 64 - 1)) 0 s None s
 no_run memory a steps s ready = record {
@@ -28,7 +28,7 @@ no_run memory a steps s ready = record {
   capacity = refl;
 }
 
--- a step more
+-- a run and one step more
 pub run_and_step : {M : Type 0} (memory : Ghosts M) (a b c : M) (steps now made budget : ℕ) (s t u : Stack) (left : Option Entry)
     → IsRunOf memory a b steps (min (steps + made) (2 ^ 64 - 1)) made s None t → IsStep memory b c t left u
     → now ≡ min (steps + (made + 1)) (2 ^ 64 - 1) → IfNone left (budget ≡ made + 1)
@@ -45,12 +45,12 @@ run_and_step memory a b c steps now made budget s t u left first second counted 
       capacity = second.capacity ∙ first.capacity;
     }
 
--- the same, with equal numbers
+-- a run with equal counts
 pub run_as : {M : Type 0} (memory : Ghosts M) (a b : M) (steps now now' made budget : ℕ) (s t : Stack)
     → IsRunOf memory a b steps now made s None t → now' ≡ now → budget ≡ made → IsRunOf memory a b steps now' budget s None t
 run_as memory a b steps now now' made budget s t k counted all = rw (counted, all) k
 
--- a step of the stack with another node on top, of which no more is left, and with what was found of replies
+-- a step from a changed top, with no more steps left, and another reply cache is a step of the stack
 pub step_from : {M : Type 0} (memory : Ghosts M) (a b : M) (s : Stack) (g : Frame) (cache : ReplyCache) (left : Option Entry) (u : Stack)
     → steps_left (with_frame s s.height g) ≤ steps_left s → IsStep memory a b (with_frame (with_cache s cache) s.height g) left u
     → IsStep memory a b s left u

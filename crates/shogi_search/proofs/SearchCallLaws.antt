@@ -1,4 +1,4 @@
--- What a search asks and tells, by its nodes that are entered and not left.
+-- The calls of a search, by its nodes entered and not left.
 use Rattle.std.proofs.Common.{◌≡◌, ◌∙◌, ◌<◌, ◌+◌, ℕ, Bool, true, List, [], map, length, Option, Some, None, refl, inl, inr, arith}
 use Rattle.std.specs.Prelude.{IfSome}
 use Rattle.std.proofs.lemmas.List.{length-map, length-take-le}
@@ -19,19 +19,19 @@ use Rattle.shogi_search.specs.declared.stack.Stack.{Stack}
 use Rattle.shogi_search.proofs.CallLaws.{ends_after, no_calls}
 use Rattle.shogi_search.proofs.Places.{HasTop, has_top}
 
--- so many frames are on the way down
+-- the stack has one frame more than its height
 frames_count : (s : Stack) → IsStack s → length (frames_of s) ≡ s.height + 1
 frames_count s k =
     let t : HasTop s (IsChain s.root s.eval s.depth (negated INFINITY) s.bound (parents_of s)) = has_top s _ k.chain in
     let fits : s.height < length s.frames = slice_get_within s.frames s.height t.top t.is in
     length-take-le (s.height + 1) s.frames (omega arith)
 
--- so many nodes are entered and not left
+-- the nodes entered are one more than the height
 pub entered_count : (found : Option Found) (started : Bool) (s : Stack) → found ≡ None → started ≡ true
     → IsStack s → length (entered_in found started (map entered_of (frames_of s))) ≡ s.height + 1
 entered_count found started s e f k = rw (e, f) (length-map (frames_of s) entered_of ∙ frames_count s k)
 
--- the root is told of after further calls
+-- calls may precede the one that tells the root's result
 pub told_after : {M : Type 0} (called : M → Call → M → Type 0) (a b c : M) (s t x y p : ℕ)
     (search later : Progress) (found : Option Found)
     → CallsInSteps called a b s t x y p → KeepsQuestion search later
@@ -47,14 +47,14 @@ told_after called a b c s t x y p search later (Some f) first same told = record
   ]);
 }
 
--- the root was asked for, and then others
+-- the root's probe precedes other calls
 pub asks_root : {M : Type 0} {called : M → Call → M → Type 0} {answers : Shogi → Eval → ℕ → Option Entry} {a c : M} {search : Progress} (b : M) (calls : List Call)
     → called a (probe_of answers search.root search.eval search.depth) b
     → (IsEnoughBelow search.beta (answers search.root search.eval search.depth) → ⊥)
     → AreCalled called b calls c → AsksRoot called answers a c search
 asks_root b calls first not_enough rest = record { asked = b; first = first; only = λ enough. absurd (not_enough enough); calls = calls; rest = rest }
 
--- and nothing else
+-- the root's probe may be the only call
 pub asks_root_alone : {M : Type 0} {called : M → Call → M → Type 0} {answers : Shogi → Eval → ℕ → Option Entry} {a b : M} {search : Progress}
     → called a (probe_of answers search.root search.eval search.depth) b → AsksRoot called answers a b search
 asks_root_alone {called = called} {b = b} first = record { asked = b; first = first; only = λ _. refl; calls = []; rest = no_calls called b }

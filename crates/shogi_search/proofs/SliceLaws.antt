@@ -12,7 +12,7 @@ use Rattle.shogi_search.specs.declared.sliced_search.Search.TheInside.{Inside}
 use Rattle.shogi_search.specs.declared.found.Found.{Found}
 use Rattle.shogi_search.proofs.Entries.{same_found, whole_best, whole_value}
 
--- what is found of the root, in so many steps
+-- a true result with its count of steps
 pub finds_by : (old : Progress) (result : Option Found) (new : Progress) → IfSome result (IsFoundBy old)
     → IfSome result (λ f. f.steps ≡ new.steps) → IfSome result (FitsTree old) → Finds old result new
 finds_by old result new below counted range = record {
@@ -23,13 +23,13 @@ finds_by old result new below counted range = record {
   range = range;
 }
 
--- what is found of the same question
+-- a result carries over to the same question
 pub finds_as : (old mid : Progress) (result : Option Found) (new : Progress) → KeepsQuestion old mid → Finds mid result new → Finds old result new
 finds_as old mid result new same k =
     finds_by old result new (IfSome_then result k.below (λ f b. same_found _ _ _ _ _ _ _ _ f same.0 same.1.0 same.1.1.0 same.1.1.1 b)) k.counted
     (IfSome_then result k.range (λ f b. rw (← same.0, ← same.1.1.0) b))
 
--- a step is a slice of one, and others may follow
+-- a step and a further slice make a slice
 pub step_and_slice : (budget : ℕ) (old mid : Progress) (result : Option Found) (new : Progress) → 0 < budget
     → IsSliceOf 1 old None mid → IsSliceOf (budget - 1) mid result new → IsSliceOf budget old result new
 step_and_slice budget old mid result new some first second =
@@ -39,7 +39,7 @@ step_and_slice budget old mid result new some first second =
     let fell : new.steps + left_of new ≤ old.steps + left_of old = omega (arith, first.fell, second.fell) in
     assumption
 
--- a search that ends in a step ends in the slice
+-- a search that ends in one step ends within the slice
 pub ends_in_slice : (budget : ℕ) (old : Progress) (result : Option Found) (new : Progress) → 0 < budget → IsSome result
     → IsSliceOf 1 old result new → IsSliceOf budget old result new
 ends_in_slice budget old None new some ends k = absurd (cc)
@@ -50,7 +50,7 @@ ends_in_slice budget old (Some f) new some ends k =
 
 -- ---- without a step
 
--- a search that has ended stays as it is
+-- an ended search keeps its result
 pub ended_finds : (s : Inside) → IsSearch s → Finds (progress_of s) s.found (progress_of s)
 ended_finds s i =
     let known : IfSome s.found (IsKnown s) = if_known s.found i.known in
@@ -63,12 +63,12 @@ ended_finds s i =
 pub ended_slice : (budget : ℕ) (s : Inside) → IsSome s.found → IsSliceOf budget (progress_of s) s.found (progress_of s)
 ended_slice budget s some = grind arith
 
--- one that has found something in a slice ends there
+-- a search with a result has ended
 pub ended_by : (budget : ℕ) (old new : Progress) (f : Found) → KeepsQuestion old new → old.steps ≤ new.steps → new.steps ≤ old.steps + budget → new.steps ≤ old.steps + old.left
     → new.found ≡ Some f → new.left ≡ 0 → new.entered ≡ [] → IsSliceOf budget old (Some f) new
 ended_by budget old new f same rises most fell found over left_all = grind arith
 
--- one that is answered before its first step ends
+-- a search answered before its first step has ended
 pub answered_finds : (s : Inside) (search : Progress) (f : Found) → progress_of s ≡ search → IsSearch s → IsFoundBy search f → f.steps ≡ search.steps
     → Finds search (Some f) (progress_of (record s { found = Some f }))
 answered_finds s search f e i below counted =
@@ -79,6 +79,6 @@ answered_finds s search f e i below counted =
 pub answered_slice : (budget : ℕ) (s : Inside) (f : Found) → IsSliceOf budget (progress_of s) (Some f) (progress_of (record s { found = Some f }))
 answered_slice budget s f = grind arith
 
--- with no budget nothing is done, and all of the tree is left
+-- an empty budget changes nothing, and all steps of the tree are left
 pub empty_slice : (budget : ℕ) (s : Inside) → budget ≡ 0 → s.found ≡ None → s.started ≡ false → s.steps < 2 ^ 64 → IsSliceOf budget (progress_of s) None (progress_of s)
 empty_slice budget s zero none fresh fits = grind (arith, tree_size-positive s.stack.root s.stack.depth)

@@ -8,7 +8,7 @@ use Rattle.shogi_search.specs.Ranked.{Ranking, ranked, insert_pair, are_ranked, 
 use Rattle.shogi_search.proofs.RankedLaws.{top_offered, put_ranked, take_ranked}
 use Rattle.shogi_search.proofs.ranks.Ranks.offer.Goals as goal
 
--- put in at its place and cut off behind the last line
+-- inserting at the index and truncating is inserting by rank and truncating
 cut_off : (m : Move) (v w : ℤ) (xs ys more new : List (Move × ℤ)) (i n k : ℕ) → v ≡ w → xs ≡ ys → n ≡ k → more ≡ insert xs i (m, v) → new ≡ take n more → insert ys i (m, v) ≡ insert_pair m v ys → new ≡ take k (insert_pair m w ys)
 cut_off m v w xs ys more new i n k e l q a b h =
     b ∙ ap (λ (j : ℕ). take j more) q ∙ ap (take k) (a ∙ ap (λ (zs : List (Move × ℤ)). insert zs i (m, v)) l ∙ h ∙ ap (λ (z : ℤ). insert_pair m z ys) e)

@@ -6,7 +6,7 @@ use Rattle.shogi_search.specs.Ranked.{Ranking, insert_pair}
 use Rattle.shogi_search.proofs.RankedLaws.{place_next, place_here, place_last}
 use Rattle.shogi_search.proofs.ranks.Ranks.place_of.Goals as goal
 
--- the same of equal lists, values and places
+-- an index for equal lists, values and places
 of_equal : (m : Move) (v w : ℤ) (xs ys : List (Move × ℤ)) (i j : ℕ) → i ≡ j → v ≡ w → xs ≡ ys → insert xs i (m, v) ≡ insert_pair m v xs → insert ys j (m, w) ≡ insert_pair m w ys
 of_equal m v w xs ys i j at e l h =
     subst (λ (n : ℕ). insert ys n (m, w) ≡ insert_pair m w ys) at (subst (λ (zs : List (Move × ℤ)). insert zs i (m, w) ≡ insert_pair m w zs) l (subst (λ (z : ℤ). insert xs i (m, z) ≡ insert_pair m z xs) e h))

@@ -11,14 +11,14 @@ use Rattle.shogi_search.specs.declared.sliced_search.Search.TheInside.{Inside}
 use Rattle.shogi_search.proofs.SliceLaws.{answered_finds, answered_slice, empty_slice, ended_finds, ended_slice, ends_in_slice, finds_as, step_and_slice}
 use Rattle.shogi_search.proofs.sliced_search.Search.advance.Goals as goal
 
--- a search that has found nothing is fresh or under way
+-- a search without a result that has not started is fresh
 fresh_seen : (inside : Inside) (search : Progress) (b : Bool) → progress_of inside ≡ search → b ≡ is_some inside.found → b ≡ false → inside.started ≡ false → IsFresh search
 fresh_seen inside search b e is not unstarted = rw (← e) (record { unstarted = unstarted; none = grind arith })
 
 under_way : (inside : Inside) (search : Progress) (b : Bool) → progress_of inside ≡ search → b ≡ is_some inside.found → b ≡ false → inside.started ≡ true → IsUnderWay search
 under_way inside search b e is not begun = rw (← e) (record { begun = begun; none = grind arith })
 
--- before the first step the root is asked for, and the answer said too little
+-- without a result there is no answer
 no_answer : (found : Option Found) → found ≡ None → IsSome found → ⊥
 no_answer found e some = cc
 

@@ -21,7 +21,7 @@ use Rattle.shogi_search.proofs.Places.{stack_with, on_with, found_at, with_cache
 use Rattle.shogi_search.proofs.NarrowRoots.{with_bound}
 use Rattle.shogi_search.proofs.sliced_search.Search.enter_root.Goals as goal
 
--- the root is entered, and stands alone under its whole window
+-- the root just entered is alone on the stack, under its whole window
 root_ready : (s : Stack) (bound : ℤ) (cache : ReplyCache) (f : Frame) → s.depth ≤ SEARCH_DEPTH_MAX → bound ≡ s.beta → s.beta ≤ℤ INFINITY → 0 < length s.frames
     → IsAt s.root s.eval s.depth (negated INFINITY) bound f → IsFoundAt f cache → IsFree f.state → IsReady (with_frame (with_cache (with_bound s bound) cache) 0 f)
 root_ready s bound cache f shallow whole most room root found free = record {

@@ -22,7 +22,7 @@ use Rattle.shogi_search.proofs.NarrowRoots.{uses_after}
 use Rattle.shogi_search.proofs.CallLaws.{asks_in_step, stays, steps_and_steps}
 use Rattle.shogi_search.proofs.stack.Stack.enter_child.Goals as goal
 
--- the node on top waits for the answer of this move
+-- the node on top waits for this move
 asks_there : (s : Stack) (m : Move) (d : Frame) → s.height < length s.frames → OnTop s (λ top. top.state ≡ AwaitingChild m) → IsCurrent (get_or s.frames s.height d).state m
 asks_there s m d fits top = asked _ m (read_on s d (λ (f : Frame). f.state ≡ AwaitingChild m) fits top)
 
@@ -87,7 +87,7 @@ returns-in-Some-answer_of-clause-left g c =
     let f : Frame = get_or c.args.self.now.frames c.args.self.now.height c.index-self-self-in-Some-answer_of.result in
     left_visited c.args.self.now c.args.current.now f c.back_up-in-Some-answer_of.new.self (read_top c.args.self.now c.index-self-self-in-Some-answer_of.result (omega (arith, c.requires.stack.height_fits))) c.back_up-in-Some-answer_of.ensures.0 c.back_up-in-Some-answer_of.ensures.1.0
 
--- the visit of the current move of the node on top has ended
+-- once the visit of its current move has ended, the node on top is ready
 ready_on : (s : Stack) (f h : Frame) → IsTop s f → IsStack s → IsWhole s → EndsVisit f h → IsReady (with_frame s s.height h)
 ready_on s f h is stack whole ends = record {
   stack = changed s f h is stack ends.0;
@@ -95,7 +95,7 @@ ready_on s f h is stack whole ends = record {
   top = on_with s s.height h (λ (top : Frame). IsFree top.state) (slice_get_within s.frames s.height f is) ends.1.1;
 }
 
--- the node on top after the window of a root was narrowed
+-- the node on top keeps its moves as the window is narrowed
 topmost : (s : Stack) (d : Frame) (n : Stack) → IsTop s (get_or s.frames s.height d) → OnTop s (λ old. OnTop n (λ new. KeepsAsked old new)) → OnTop n (λ new. KeepsAsked (get_or s.frames s.height d) new)
 topmost s d n is top = on_top s (get_or s.frames s.height d) (λ (old : Frame). OnTop n (λ new. KeepsAsked old new)) is top
 

@@ -17,7 +17,7 @@ use Rattle.shogi_search.proofs.Places.{top_deep, HasTop, IsTop, has_top, changed
 use Rattle.shogi_search.proofs.Runs.{kept_on}
 use Rattle.shogi_search.proofs.stack.Stack.leave_narrow.Goals as goal
 
--- the root, as the parent of the child that was on top
+-- the root is the parent of the child that was on top
 parent_of : (s n : Stack) (child f : Frame) (m : Move) → IsTop s child → IsTop n f → OnTop s (λ top. OnTop n (IsParentOf top m)) → IsParentOf child m f
 parent_of s n child f m is top at =
     on_top n f (IsParentOf child m) top (on_top s child (λ (c : Frame). OnTop n (IsParentOf c m)) is at)
