@@ -166,8 +166,8 @@ pub(crate) fn slides(piece: Option<Piece>) -> bool
 }
 
 impl Threat {
-    /// Destinations on which the moved piece leaves the attacker and its way. A slider must not end
-    /// where it might pin the attacker.
+    /// Destinations on which the moved piece leaves the attacker and its way. A slider also stays
+    /// off squares from which it might pin the attacker.
     #[inline(always)]
     pub(crate) fn non_interfering_squares(&self, sliding: bool) -> Squares
         ensures { AreNonInterfering self.now sliding result.bits }

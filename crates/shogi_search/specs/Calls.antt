@@ -28,7 +28,7 @@ AreCalled called old [] new = new ≡ old
 AreCalled {M} called old (call ∷ rest) new =
     (mid : M) × (called old call mid × AreCalled called mid rest new)
 
--- between two counts of steps, at most one note a step; and at most one probe a step, one for each node entered, 14 for each walk along the best line, and `besides` more; at most one walk in two steps
+-- between two counts of steps, at most one note and one probe a step, one probe for each node entered, and `besides` more. A walk along the best line makes at most 14, and takes two steps
 pub record CallsInSteps {M : Type 0} (called : M → Call → M → Type 0) (old new : M)
     (steps_before steps_after entered_before entered_after besides : ℕ) : Type 0 where
   pub calls : List Call

@@ -23,9 +23,10 @@ pub trait Memo {
     /// How the call changes the memo. An implementation may state nothing.
     ghost called: { Self → Call → Self → Type 0 } = { λ _ _ _. ⊤ };
 
-    /// Whether a search probes and stores nodes of the depth below its root. The choice changes
-    /// only the time. Below the root a search never probes nodes with fewer than two plies left. It
-    /// stores exact nodes of depth 2 even if they are not served.
+    /// Whether a search probes and stores nodes of the depth below its root. The choice changes the
+    /// time and the steps, not the result. Nodes with at most one ply left are settled without the
+    /// memo and stored only as a root; depth 1, if served, is probed for hash moves. Exact nodes of
+    /// depth 2 are stored even if not served.
     fn serves(&self, _d: u8) -> bool {
         true
     }

@@ -1,4 +1,4 @@
--- What is answered to a line whose position was read.
+-- The answer to a line whose position was read.
 use Rattle.std.proofs.Common.{◌≡◌, ◌≢◌, ◌∙◌, ◌++◌, ℕ, Bool, false, List, [], ◌∷◌, Result, Ok, refl, sym, ap}
 use Rattle.shogi_core.specs.Position.{Shogi}
 use Rattle.usi_lines.specs.Lines.{Line, Text}

@@ -16,7 +16,7 @@ pub words_mapped : (moves : List Move) → flat_map (λ (m : Move). word_of (cod
 words_mapped [] = refl
 words_mapped (m ∷ ms) = ap (λ xs. word_of (code_of m) ++ xs) (words_mapped ms)
 
--- the moves of a list that was empty
+-- a list that was empty has the moves appended
 pub listed : (empty all : List Move) (codes : List ℕ) → empty ≡ [] → map code_of all ≡ map code_of empty ++ codes → map code_of all ≡ codes
 listed empty all codes none e = e ∙ ap (λ (ms : List Move). map code_of ms ++ codes) none
 
@@ -50,7 +50,7 @@ lists_end p q n key h e f g = rw (lists_step p n h, sym e, sym f, sym g) refl
 pub lists_go_on : (p q r : Shogi) (n key reply : ℕ) → 0 < n → Some key ≡ first_key p (n - 1) → q ≡ after_code p key → Some reply ≡ longest_defence q (n - 1) → r ≡ after_code q reply → key_lists p n ≡ keys p (n - 1) ∷ key_lists r (n - 1)
 lists_go_on p q r n key reply h e f g i = rw (lists_step p n h, sym e, sym f, sym g, sym i) refl
 
--- what was written and what is left stay the whole
+-- writing the next keys keeps the whole
 pub text_left : (out new whole moves : List ℕ) (lists rest : List (List ℕ)) → lists ≡ moves ∷ rest → new ≡ out ++ keys_line moves → out ++ flat_map keys_line lists ≡ whole → new ++ flat_map keys_line rest ≡ whole
 text_left out new whole moves lists rest is written before =
     ap (λ xs. xs ++ flat_map keys_line rest) written
@@ -76,7 +76,7 @@ count_over so_far whole lists none before =
     let zero_left : count_several lists ≡ 0 = ap count_several none in
     omega (arith, zero_left, before)
 
--- the same where these keys are the last
+-- writing the last keys completes the whole
 pub last_text : (out new whole moves : List ℕ) (lists : List (List ℕ)) → lists ≡ moves ∷ [] → new ≡ out ++ keys_line moves → out ++ flat_map keys_line lists ≡ whole → new ≡ whole
 last_text out new whole moves lists is written before = text_over new whole [] refl (text_left out new whole moves lists [] is written before)
 

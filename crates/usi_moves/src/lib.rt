@@ -1,4 +1,4 @@
-//! The legal moves of a position, counts of sequences of them, and mates by checks, as text.
+//! Texts of a position's legal moves, perft counts, and mates by checks.
 #![tactic(auto)]
 
 mod answers;

@@ -12,7 +12,7 @@ use shogi_moves::{Walk, advance, perft};
 use shogi_sfen::write_move;
 use std::alloc::{AllocError, Allocator};
 
-/// Why a count is not told.
+/// Why there is no count.
 #[derive(Clone, Copy, Debug, PartialEq, Eq)]
 pub enum CountFault {
     /// Memory ran out.
@@ -29,7 +29,7 @@ impl From<AllocError> for CountFault {
     }
 }
 
-/// Appends the line of a move.
+/// Appends a move, and the end of its line.
 #[tactic(auto, using(crate::proofs::Appending::after_two))]
 fn write_line<A: Allocator>(out: &mut Vec<u8, A>, m: &Move) -> Result<(), AllocError>
     ensures { Appends result out.old out.new (move_line (code_of m.now)) }
@@ -41,8 +41,8 @@ fn write_line<A: Allocator>(out: &mut Vec<u8, A>, m: &Move) -> Result<(), AllocE
     Ok(())
 }
 
-/// Appends a line for each legal move, in the order of their codes: the move as USI writes it. On an
-/// error a front of them was appended.
+/// Appends a line for each legal move, by rising code, as USI writes it. On an error some first
+/// bytes of this are appended.
 pub fn write_moves<A: Allocator>(out: &mut Vec<u8, A>, p: &Position) -> Result<(), AllocError>
     ensures { Appends result out.old out.new (moves_text p.now) }
 {
@@ -64,7 +64,7 @@ fn write_count<A: Allocator>(out: &mut Vec<u8, A>, count: u64) -> Result<(), All
     Ok(())
 }
 
-/// Appends the line of a first move with its count, where the counts are divided.
+/// Appends the line of a first move with its count, if the counts are divided.
 #[tactic(auto, using(crate::proofs::Appending::after_three))]
 fn write_share<A: Allocator>(
     out: &mut Vec<u8, A>,
@@ -85,15 +85,15 @@ fn write_share<A: Allocator>(
     Ok(())
 }
 
-/// Who is told while a count goes on. What it does has no part in the count.
+/// Follows a count as it goes on, without a part in it.
 pub trait Progress {
     /// All sequences that begin with this move are counted.
     fn counted(&mut self, m: &Move);
 }
 
-/// Appends how many sequences of `depth` legal moves there are, on a line; before it, where they are
-/// divided, a line for each legal move in the order of codes, with how many of them begin with it.
-/// `TooMany` where there are 2^64 or more. On an error a front of it was appended.
+/// Appends the number of sequences of `depth` legal moves, 1 to 16, on a line. If the count is
+/// divided, a line for each first move with its count comes before, by rising code. Fails with
+/// `TooMany` if the number is 2^64 or more; on an error some first bytes of this may be appended.
 pub fn write_perft<A: Allocator, P: Progress>(
     out: &mut Vec<u8, A>,
     p: &Position,

@@ -3,6 +3,6 @@ use Rattle.shogi_core.specs.Codes.{code_of}
 use Rattle.usi_moves.specs.Solutions.{word_of}
 use Rattle.usi_moves.proofs.solutions.write_words.Given as goal
 
--- the moves so far were appended
+-- the moves so far are appended
 abbrev pub invariant-loop-m : goal.invariant-loop-m
 invariant-loop-m g l = l.out.items ≡ l.fn.out.items ++ flat_map (λ m. word_of (code_of m)) (take l.m-index l.moves)

@@ -18,7 +18,7 @@ moves-init g c = record {
 pub advance-requires : goal.advance-requires
 advance-requires g c = search rules
 
--- where the share of a move passes the greatest number, the whole does
+-- if the count of one first move is 2^64 or more, the whole count is
 pub returns-in_default-perft-clause-too_many : goal.returns-in_default-perft-clause-too_many
 returns-in_default-perft-clause-too_many g c =
     let step = perft_by-left c.args.p.now (c.args.depth - 1) (code_of c.in-Some.m) c.moves.walk.codes c.next.new.self.codes c.advance.new.p c.in-Some.ensures.next c.advance.ensures.by_code in
@@ -33,7 +33,7 @@ returns-in_default-checked_add-clause-too_many g c =
 pub moves-smaller : goal.moves-smaller
 moves-smaller g c = fewer_left c.moves.walk.codes c.next.new.self.codes _ c.in-Some.ensures.next
 
--- the move's share joins what is counted, and its line what is written
+-- the first move's count is added, and its line appended
 pub moves-preserved : goal.moves-preserved
 moves-preserved g c =
     let step = perft_by-left c.args.p.now (c.args.depth - 1) (code_of c.in-Some.m) c.moves.walk.codes c.next.new.self.codes c.advance.new.p c.in-Some.ensures.next c.advance.ensures.by_code in

@@ -4,7 +4,7 @@ use Rattle.shogi_moves.proofs.PerftLaws.{perft_by}
 use Rattle.usi_moves.specs.Listings.{shares_text}
 use Rattle.usi_moves.proofs.texts.write_perft.Given as goal
 
--- what is counted and what is left make the whole, and so do their lines
+-- the count so far and that of the moves left make the whole, and so do the lines
 abbrev pub invariant-moves : goal.invariant-moves
 invariant-moves g l = record {
   whole : l.total + perft_by l.p (l.depth - 1) l.walk.codes ≡ perft l.p l.depth;
