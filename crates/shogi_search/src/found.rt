@@ -12,6 +12,6 @@ pub struct Found {
     /// a search below a bound it may also be `None` if the value is at or above the bound.
     pub best: Option<Move>,
     /// The steps made; the count saturates. A step enters a node, leaves a node, or settles a child
-    /// or the root at once. A root that the memo answers takes none.
+    /// or the root without entering it. A root that the memo answers takes none.
     pub steps: u64,
 }

@@ -2,9 +2,9 @@
 //!
 //! `Stack::step` is alpha-beta over the frames of `search_nodes`, from the root down; `Search`
 //! counts its steps in slices, and its contracts say what it promises. Values and best moves are
-//! those of `minimax`. A step enters a node, leaves a node, or settles a child or the root at once:
-//! by the memo, by mate distance, or by `last_ply`. `Ranks` keeps the best moves of a root for
-//! MultiPV.
+//! those of `minimax`. A step enters a node, leaves a node, or settles one without entering it: a
+//! child by the memo or by mate distance, a child or the root if at most one ply is left. `Ranks`
+//! keeps the best moves of a root for MultiPV.
 #![tactic(auto)]
 
 mod found;

@@ -24,10 +24,10 @@ use std::marker::Model;
 /// A resumable search of a position under an evaluation at a depth, for its value below a bound.
 /// Each slice may be given another memo.
 ///
-/// A step enters a node, leaves a node, or settles a child or the root at once: by the memo, by
-/// mate distance, or by `last_ply` if at most one ply is left. A step takes at most about as long
-/// as making and examining all moves of one position. One that leaves a child of the root may also
-/// probe the memo once for each ply of the best line.
+/// A step enters a node, leaves a node, or settles one without entering it: a child by the memo or
+/// by mate distance, a child or the root if at most one ply is left. A step takes at most about as
+/// long as making and examining all moves of one position. One that leaves a child of the root may
+/// also probe the memo once for each ply of the best line.
 ///
 /// At depth 3 and from depth 5 on, once the root has a best move, its children are entered under a
 /// narrow window, and again under the whole one if that is not enough.
