@@ -32,9 +32,9 @@ use std::marker::Model;
 /// At depth 3 and from depth 5 on, once the root has a best move, its children are entered under a
 /// narrow window, and again under the whole one if that is not enough.
 ///
-/// A node first visits, if legal: at the root the advised moves; the hash move; the best or cutting
-/// move of the node that was last in its frame; from depth 3 on four killers; below the root, if
-/// there is room, the counter move.
+/// A node first visits, if they are legal: the advised moves at the root, the hash move, and the
+/// best or cutting move of the node that was last in its frame. From depth 3 on four killers
+/// follow, and below the root the counter move, if there is room.
 #[derive(Drop)]
 pub struct Search {
     stack: Stack,
