@@ -1,4 +1,4 @@
--- The accepts of a turn, as its private functions promise them (own choice).
+-- The accepts of a turn, as the private functions of a turn promise them (own choice).
 use Rattle.std.specs.Prelude.{ℕ, ◌≡◌, List, [], ◌∷◌, length, cond, ◌<◌, ◌≤◌, ◌⊎◌, map, true, Option, false, suc, nat_lt}
 use Rattle.host_core.specs.Events.{Outcome, Opened}
 use Rattle.host_core.specs.Headline.{IsPrefixOf}
@@ -23,28 +23,28 @@ use Rattle.socket_loop.specs.Scenes.{Scene}
 use Rattle.socket_loop.specs.Tallies.{count_of, full_of, unopened_of}
 use Rattle.socket_loop.specs.Visits.{IsQuiet}
 
--- the place before the first connection with a greater slot
+-- the index of the first connection with a greater slot
 abbrev pub place_for : ℕ → List Connection → ℕ
 place_for slot [] = 0
 place_for slot (first ∷ rest) = cond (nat_lt slot first.link.id.slot) 0 (suc (place_for slot rest))
 
--- a connection that was just accepted
+-- a connection just accepted: its reads have not ended, and it is not shut
 abbrev pub new_connection : Link → Connection
 new_connection link = record { link = link; has_ended = false; is_shut = false }
 
--- these numbers are those of the connections that were accepted
+-- the counts of the connections accepted
 pub record AreArrivals (items : List Accepted) (arrivals : Arrivals) : Type 0 where
   pub accepted : arrivals.accepted ≡ length items
   pub full : arrivals.full ≡ count_of full_of items
   pub unopened : arrivals.unopened ≡ count_of unopened_of items
 
--- no further connection is marked
+-- no connection became marked as ended or as shut
 pub record AddsNoMark (held now : List Connection) (number : ℕ) : Type 0 where
   pub ended : IsMarked reads_ended now number → IsMarked reads_ended held number
   pub shut : IsMarked was_shut now number → IsMarked was_shut held number
 
--- each connection is held as it was, and each further one is unmarked; the slots rise where they rose; a count of faults
--- never falls
+-- each connection stays held and unchanged, and each new one is unmarked; rising slots stay rising; the count of
+-- faults never falls
 pub record HoldsMore (held : List Connection) (before : ℕ) (now : List Connection) (after : ℕ)
     : Type 0 where
   pub grows : Grows held now
@@ -65,7 +65,7 @@ pub record IsShutAfterPrefix (bound : ℕ) (text : List ℕ) (old new : Report) 
   pub failed : OnlyRises (old.has_failed number) (new.has_failed number)
   pub others : KeepsOthers old new number
 
--- a new connection has a session, of this generation or a later one
+-- a new connection has a session that was opened for it, of this generation or a later one
 pub record IsNew (from to : ℕ) (accepted : List Accepted) (next : ℕ) (old new : Report)
     (steps : List Step) (link : Link) : Type 0 where
   pub least : from ≤ link.number
@@ -75,7 +75,7 @@ pub record IsNew (from to : ℕ) (accepted : List Accepted) (next : ℕ) (old ne
   pub fresh : next ≤ link.id.generation
   pub kept : KeepsConnection old new link.number
 
--- the host opened sessions, and answered each `Open` so
+-- the host opened sessions alone, and its answers are the outcomes of the connections accepted
 pub record Admissions (accepted : List Accepted) (before after : HostState) : Type 0 where
   pub steps : List Step
   pub kinds : Each (λ step. IsAdmission step.event) steps
@@ -84,7 +84,7 @@ pub record Admissions (accepted : List Accepted) (before after : HostState) : Ty
   pub no_taken : (id : SessionId) → taken id steps ≡ []
   pub answers : map (λ step. step.outcome) steps ≡ map (λ new. new.outcome) accepted
 
--- new connections were accepted: each number keeps what is reported of it, or was rejected
+-- new connections were accepted: what is reported of a number stays, or its connection was rejected
 pub record Accepts (links : List Link) (from : ℕ) (old : Report) (before : HostState)
     (met : List Link) (to : ℕ) (new : Report) (after : HostState) : Type 0 where
   pub accepted : List Accepted
@@ -105,14 +105,14 @@ pub record Accepts (links : List Link) (from : ℕ) (old : Report) (before : Hos
   pub fits : Fits links from before → Fits met to after
   pub once : Fits links from before → AreOnce links → AreOnce met
 
--- these connections were accepted
+-- exactly these connections were accepted
 pub record AcceptsThese (items : List Accepted) (links : List Link) (from : ℕ) (old : Report)
     (before : HostState) (met : List Link) (to : ℕ) (new : Report) (after : HostState)
     : Type 0 where
   pub accepts : Accepts links from old before met to new after
   pub items_are : accepts.accepted ≡ items
 
--- of a new connection, from any state of the wire that reported the same
+-- a new connection was accepted, from any state of the wire with this report
 abbrev pub Admits : List Link → Report → HostState → ℕ → Outcome → ℕ → List Link → Report
     → HostState → Type 0
 Admits links report before number outcome to met new after =
@@ -120,14 +120,14 @@ Admits links report before number outcome to met new after =
     → AcceptsThese (record { number = number; outcome = outcome } ∷ []) links from old before met to
     new after
 
--- one connection was admitted
+-- the calls for one new connection, after its accept
 pub record AsksAdmission (met : List Link) (number : ℕ) (outcome : Outcome)
     (old new : Option (List Call)) : Type 0 where
   pub calls : List Call
   pub admitted : IsAdmittedAs met (record { number = number; outcome = outcome }) outcome calls
   pub asked : Asks old new calls
 
--- a new connection of this number was admitted, with its calls
+-- one new connection was admitted, with its calls and its counts
 pub record AdmitsOne (number : ℕ) (admission : Admission) (before after : Scene) : Type 0 where
   pub outcome : Outcome
   pub admits : Admits (links_of before.held) before.report before.host number outcome before.bound
@@ -138,7 +138,7 @@ pub record AdmitsOne (number : ℕ) (admission : Admission) (before after : Scen
   pub more : HoldsMore before.held before.failed after.held after.failed
   pub bound : after.bound ≡ before.bound
 
--- connections were accepted, with all calls and with their numbers
+-- connections were accepted, with all their calls and counts
 pub record AllAccepted (arrivals : Arrivals) (links : List Link) (from : ℕ) (old : Report)
     (before : HostState) (met : List Link) (to : ℕ) (new : Report) (after : HostState)
     (old_calls new_calls : Option (List Call)) : Type 0 where
@@ -147,7 +147,7 @@ pub record AllAccepted (arrivals : Arrivals) (links : List Link) (from : ℕ) (o
   pub numbers : AreArrivals accepts.accepted arrivals
   pub asked : AsksAll before links met accepts.accepted old_calls new_calls
 
--- connections were accepted, if any; where none was, all that is reported stays
+-- connections were accepted, if any; if none was, the report and the connections stay
 pub record AcceptsAll (arrivals : Arrivals) (before after : Scene) : Type 0 where
   pub accepts : AllAccepted arrivals (links_of before.held) before.bound before.report before.host
       (links_of after.held) after.bound after.report after.host before.asked after.asked

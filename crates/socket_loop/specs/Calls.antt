@@ -29,47 +29,48 @@ use Rattle.transport.specs.Report.{KeepsAll}
 
 -- ---- one connection
 
--- the connection is one to read from: its reads have not ended, it is not shut, and its session wants input
+-- the connection is to be read: its reads have not ended, it is not shut, and its session wants input
 abbrev pub is_to_read : HostState → Connection → Bool
 is_to_read host connection =
     (not connection.has_ended && not connection.is_shut)
     && wants_input_of (find host.slots connection.link.id)
 
--- the connection is one to write to: it is not shut, and something is queued for it
+-- the connection is to be written: it is not shut, and its session has output
 abbrev pub is_to_write : HostState → Connection → Bool
 is_to_write host connection =
     not connection.is_shut && nat_lt 0 (length (queued_of (find host.slots connection.link.id)))
 
--- it is not shut, and finished with
+-- the connection is to be shut: it is finished with, and not shut yet
 abbrev pub is_to_shut : HostState → Connection → Bool
 is_to_shut host connection = not connection.is_shut && is_finished host connection
 
--- the call that shut it, where it was not shut before
+-- the call that shut the connection, if it was not shut before
 abbrev pub shuts_of : Connection → Connection → List Call
 shuts_of old new = cond (new.is_shut && not old.is_shut) (Shut old.link.number ∷ []) []
 
--- one read where it is to be read; it may be shut then
+-- the calls of a read: one read if the connection is to be read, then a shut if it was shut
 abbrev pub reads_of : HostState → Connection → Connection → List Call
 reads_of host old new =
     cond (is_to_read host old) (Read old.link.number CHUNK_MAX ∷ shuts_of old new) []
 
--- one write of all that is queued, where it is to be written; it may be shut then
+-- the calls of a write: one write of all that is queued if the connection is to be written, then a shut if it was
+-- shut
 abbrev pub writes_of : HostState → Connection → Connection → List Call
 writes_of host old new =
     cond (is_to_write host old)
     (Write old.link.number (queued_of (find host.slots old.link.id)) ∷ shuts_of old new) []
 
--- it is shut where it is finished with
+-- the call of an end: a shut if the connection is finished with
 abbrev pub ends_of : HostState → Connection → Connection → List Call
 ends_of host old new = cond (is_to_shut host old) (Shut old.link.number ∷ []) []
 
--- the calls for a connection in a part of a turn
+-- the calls for a connection in each part of a turn
 abbrev pub calls_of : Part → HostState → Connection → Connection → List Call
 calls_of Input = reads_of
 calls_of Output = writes_of
 calls_of End = ends_of
 
--- the steps of a host in a part of a turn
+-- the host events of each part of a turn
 abbrev pub steps_of : Part → Event → Type 0
 steps_of Input = IsInput
 steps_of Output = IsOutput
@@ -83,14 +84,15 @@ IsOf id (Work other budget) = other ≡ id
 IsOf id (Take other n) = other ≡ id
 IsOf id (Close other) = other ≡ id
 
--- the host made steps of this kind, of one session alone
+-- the host made steps of this kind, all for one session
 pub record Visits (kind : Event → Type 0) (id : SessionId) (old new : HostState) : Type 0 where
   pub steps : List Step
   pub kinds : Each (λ step. kind step.event) steps
   pub of_it : Each (λ step. IsOf id step.event) steps
   pub run : IsRun old steps new
 
--- a connection was visited with these calls: it is shut exactly where it was before or its shut was asked for, and with it its session was closed; its reads have ended only where they had before or a read was asked for
+-- a connection was visited with these calls: it is shut exactly if it was before or a call shut it, its session is
+-- closed if it was shut now, and its reads end only by a read
 pub record IsVisit (after : HostState) (calls : List Call) (old new : Connection) : Type 0 where
   pub link : new.link ≡ old.link
   pub made : KeepsMade old new
@@ -101,7 +103,8 @@ pub record IsVisit (after : HostState) (calls : List Call) (old new : Connection
 
 -- ---- one connection after the other
 
--- the first connections were visited, each with the calls that are due by the host's state then; the others are as they were
+-- the first `n` connections were visited, each with the calls due in the host's state at that time; the others are
+-- unchanged
 abbrev pub AreVisitedTo : ℕ → (HostState → Connection → Connection → List Call) → (Event → Type 0)
     → HostState → List Connection → List Connection → List Call → HostState → Type 0
 AreVisitedTo zero due kind before xs ys calls after = (ys ≡ xs) × ((calls ≡ []) × (after ≡ before))
@@ -114,7 +117,7 @@ AreVisitedTo (suc n) due kind before (x ∷ xs) (y ∷ ys) calls after =
     × (IsVisit mid (due before x y) x y
     × (Visits kind x.link.id before mid × AreVisitedTo n due kind mid xs ys rest after))))
 
--- so many connections were visited, and a wire was asked for the calls of these visits
+-- the first `n` connections were visited, and the wire was asked for exactly the calls of these visits
 pub record AsksTo (n : ℕ) (due : HostState → Connection → Connection → List Call)
     (kind : Event → Type 0) (before : HostState) (xs ys : List Connection)
     (old new : Option (List Call)) (after : HostState) : Type 0 where
@@ -124,14 +127,15 @@ pub record AsksTo (n : ℕ) (due : HostState → Connection → Connection → L
 
 -- ---- new connections
 
--- the calls after a connection was accepted, by how the host answered its `Open`, where these are met then: none where a session was opened, with which it is met; and else a shut, or, where the host is full, one write that says so, and a shut
+-- the calls after an accept: none if a session was opened and is held; a write of `info string host full` and a shut
+-- if the host is full; a shut alone if memory ran out
 abbrev pub IsAdmittedAs : List Link → Accepted → Outcome → List Call → Type 0
 IsAdmittedAs met item (Opened id) calls = HasSession met item × (calls ≡ [])
 IsAdmittedAs met item (Refused Full) calls =
     calls ≡ Write item.number host_full ∷ Shut item.number ∷ []
 IsAdmittedAs met item _ calls = calls ≡ Shut item.number ∷ []
 
--- these connections were accepted, one after the other
+-- these connections were accepted, one after the other, with these calls
 abbrev pub AreAccepted : List Link → List Accepted → List Call → Type 0
 AreAccepted met [] calls = calls ≡ []
 AreAccepted met (first ∷ items) calls =
@@ -140,7 +144,7 @@ AreAccepted met (first ∷ items) calls =
     × ((calls ≡ Accept (Ok (Some first.number)) ∷ (more ++ rest))
     × (IsAdmittedAs met first first.outcome more × AreAccepted met items rest)))
 
--- so many were accepted as are accepted in a turn, or fewer, and one accept gave nobody
+-- accepting ends after `ACCEPTS` connections, or with an accept that gives nobody
 abbrev pub EndsAccepting : List Accepted → List Call → Type 0
 EndsAccepting items last =
     ((length items ≡ ACCEPTS) × (last ≡ []))
@@ -148,7 +152,8 @@ EndsAccepting items last =
     × ((last ≡ Accept (Ok None) ∷ [])
     ⊎ ((fault : WireFault) × (last ≡ Accept (Err fault) ∷ []))))
 
--- connections were accepted until one accept gave nobody, or ACCEPTS of them were; it may end before that only where not each connection that was held had an open session of its own, as another closed it
+-- connections were accepted until one accept gave nobody, or `ACCEPTS` were; accepting may end earlier only if a held
+-- connection has no open session of its own, as when its session was closed from elsewhere
 pub record AsksAll (host : HostState) (links met : List Link) (items : List Accepted)
     (old new : Option (List Call)) : Type 0 where
   pub first : List Call
@@ -159,7 +164,7 @@ pub record AsksAll (host : HostState) (links met : List Link) (items : List Acce
 
 -- ---- a turn
 
--- the accepts of a turn, and the connections that it met
+-- the accepts of a turn, and the connections it holds after them
 pub record AsksArrivals (slice : ℕ) (moved : Bool) (before after : Scene)
     (turn : IsTurn slice moved before after) : Type 0 where
   pub accepted : Option (List Call)
@@ -172,7 +177,8 @@ pub record AsksArrivals (slice : ℕ) (moved : Bool) (before after : Scene)
   pub grows : Grows before.held met
   pub rising : IsRising (links_of before.held) → IsRising (links_of met)
 
--- a read for each connection that is to be read, and after the round a write for each that is to be written, and a shut for each that is finished with
+-- a read for each connection to be read; after the round, a write for each to be written, and a shut for each that is
+-- finished with
 pub record AsksVisits (start end middle : HostState) (met marks : List Connection)
     (accepted : Option (List Call)) (after : Scene) : Type 0 where
   pub read : List Connection
@@ -187,7 +193,7 @@ pub record AsksVisits (start end middle : HostState) (met marks : List Connectio
       after.host
   pub left : after.held ≡ unshut_of last
 
--- a turn, its calls and its numbers
+-- a turn, its calls and its counts
 pub record AsksTurn (slice : ℕ) (moved : Bool) (tally : Tally) (before after : Scene)
     : Type 0 where
   pub turn : IsTurn slice moved before after
@@ -198,7 +204,8 @@ pub record AsksTurn (slice : ℕ) (moved : Bool) (tally : Tally) (before after :
       turn.host.refused tally
   pub counted : CountsRound turn.host.start slice tally.steps tally.bestmoves turn.host.end
 
--- a turn, and what it did: it moved where a connection was accepted, gave or took at least one byte, ended or was shut, or a session is pending; it served those whose session was open, and those that are new
+-- a turn and what it did: if it moved, a connection was accepted, gave or took a byte, ended or was shut, or a
+-- session is pending; each open session, and each new one, was served
 pub record Turns (slice : ℕ) (moved : Bool) (tally : Tally) (before after : Scene) : Type 0 where
   pub asked : AsksTurn slice moved tally before after
   pub moves : moved ≡ true

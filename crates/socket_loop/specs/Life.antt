@@ -16,56 +16,59 @@ use Rattle.transport.specs.Moves.{AllMove, IsEmptied}
 use Rattle.socket_loop.specs.Turns.{FitsOne, Served, rejection_text}
 use Rattle.socket_loop.specs.Scenes.{Scene}
 
--- what is owed to the bytes that are read from here on, and whether they end the session
+-- what a session owes for the bytes read from here on, and whether they end it
 pub record Duty : Type 0 where
   pub owes : List ℕ → List ℕ
   pub ends : List ℕ → Bool
 
--- of a new session: the replies under the setup under which it began
+-- the duty of a new session: the replies under its setup
 abbrev pub new_duty : Setup → Duty
 new_duty setup = record { owes = replies_under setup; ends = is_over_after_under setup }
 
--- of a session that continues: what it owes; nothing, where none is open
+-- the duty of a session that continues: what it owes; nothing if none is open
 abbrev pub duty_of : Option SessionView → Duty
 duty_of None = record { owes = λ bytes. []; ends = λ bytes. true }
 duty_of (Some session) = record { owes = due session; ends = is_over_due session }
 
--- the reads of a connection had ended before, or nothing is left to be read from it, where that is reported
+-- the reads of a connection had ended before, or nothing is left to read, if that is reported
 abbrev pub ReadsEnded : Scene → Scene → ℕ → Type 0
 ReadsEnded before after number =
     IsMarked reads_ended before.held number
     ⊎ IsEmptied (before.report.unread number) (after.report.unread number)
 
--- the bytes that were read end the session, by `quit` or a line that is too long, and nothing is owed to whatever else may be read
+-- the bytes read end the session, by `quit` or a line that is too long, and no further input is answered
 pub record EndsItself (duty : Duty) (read written : List ℕ) : Type 0 where
   pub over : duty.ends read ≡ true
   pub no_more : (x : List ℕ) → duty.owes (read ++ x) ≡ written
 
--- nothing was lost of what was read, and all that is owed to it was written; and the reads have ended, or what was read ends the session
+-- a complete answer: no byte read was lost and all that is owed was written, and the reads have ended or the input
+-- ends the session
 pub record IsComplete (duty : Duty) (before after : Scene) (number : ℕ) (read lost written : List ℕ)
     : Type 0 where
   pub none_lost : lost ≡ []
   pub all : written ≡ duty.owes read
   pub why : ReadsEnded before after number ⊎ EndsItself duty read written
 
--- why a connection was shut: a call of it failed; or bytes were lost that were read, as an allocation failed; or it was complete
+-- why a connection was shut: a call of it failed, memory ran out for bytes read, or its answer was complete
 abbrev pub HasEnded : Duty → Scene → Scene → ℕ → List ℕ → List ℕ → List ℕ → Type 0
 HasEnded duty before after number read lost written =
     IsRaised (before.report.has_failed number) (after.report.has_failed number)
     ⊎ ((lost ≢ []) ⊎ IsComplete duty before after number read lost written)
 
--- it was shut, and its session is open no more
+-- the connection was shut, and its session is closed
 pub record WasRemoved (before after : Scene) (link : Link) : Type 0 where
   pub shut : IsRaised (before.report.is_shut link.number) (after.report.is_shut link.number)
   pub closed : find after.host.slots link.id ≡ None
 
--- it is held, or it was removed; but one that was marked as shut before may be held no more as it is
+-- the connection is held, or was shut with its session closed, or was already marked as shut before
 abbrev pub IsHeldOrGone : Scene → Scene → Link → Type 0
 IsHeldOrGone before after link =
     IsAmong (links_of after.held) link
     ⊎ (IsMarked was_shut before.held link.number ⊎ WasRemoved before after link)
 
--- the bytes that were read from a connection and those that were written to it: what was written is a prefix of what is owed to what was read, and all of it where its session is open with nothing pending and nothing queued; its session is over, once all is answered, exactly where these bytes end it; where it is closed, it has ended for a cause of its own
+-- a connection was answered: what was written is a prefix of what is owed for the input, all of it if the session is
+-- open with nothing pending or queued; the session is over exactly if the input ends it, once all is answered; a
+-- closed one has a cause of its own
 pub record IsAnswered (duty : Duty) (before after : Scene) (link : Link) : Type 0 where
   pub served : Served duty.owes before.report after.report link.number
       (find after.host.slots link.id)
@@ -78,19 +81,21 @@ pub record IsAnswered (duty : Duty) (before after : Scene) (link : Link) : Type 
   pub kept : IsHeldOrGone before after link
   pub fits : FitsOne (links_of after.held) after.bound after.host link
 
--- it was held before, and is answered what its session owed; or it was accepted since, and is answered from the replies under the setup of the host
+-- a connection held before is answered what its session owed; one accepted since is answered the replies under the
+-- host's setup
 abbrev pub IsServed : Scene → Scene → Link → Type 0
 IsServed before after link =
     (IsAmong (links_of before.held) link
     × IsAnswered (duty_of (find before.host.slots link.id)) before after link)
     ⊎ ((before.bound ≤ link.number) × IsAnswered (new_duty before.host.setup) before after link)
 
--- it was not held and is not, and all that is reported of it stays
+-- the connection is not held, and nothing reported of it changed
 pub record IsUntouched (before after : Scene) (number : ℕ) : Type 0 where
   pub kept : KeepsConnection before.report after.report number
   pub unheld : IsNotAmong (links_of after.held) number
 
--- it was accepted since, and rejected, as its `Open` was refused: it was read nothing from, written a prefix of `info string host full` where the host was full and else nothing, and shut
+-- a connection accepted since was rejected, as its `Open` was refused: nothing was read, a prefix of `info string
+-- host full` was written if the host was full, otherwise nothing, and it was shut
 pub record WasRejected (before after : Scene) (number : ℕ) : Type 0 where
   pub least : before.bound ≤ number
   pub most : number < after.bound
@@ -103,13 +108,13 @@ pub record WasRejected (before after : Scene) (number : ℕ) : Type 0 where
   pub shut : IsRaised (before.report.is_shut number) (after.report.is_shut number)
   pub unheld : IsNotAmong (links_of after.held) number
 
--- the connection of a number was rejected, or it was served, with one session
+-- the connection of a number was rejected, or served with one session
 abbrev pub IsAccountedFor : Scene → Scene → ℕ → Type 0
 IsAccountedFor before after number =
     WasRejected before after number
     ⊎ ((id : SessionId) × IsServed before after (record { number = number; id = id }))
 
--- what became of each connection: nothing, or it is accounted for; those that are held now were served, and the host has the setup that it had
+-- each connection was untouched, rejected or served; each held one was served; the host's setup stays
 pub record Lives (before after : Scene) : Type 0 where
   pub setup : after.host.setup ≡ before.host.setup
   pub rises : before.bound ≤ after.bound
@@ -122,7 +127,8 @@ pub record Lives (before after : Scene) : Type 0 where
       → IsUntouched before after number ⊎ IsAccountedFor before after number
   pub held : (link : Link) → IsAmong (links_of after.held) link → IsServed before after link
 
--- once what was read from a connection ends its session, and nothing of it is pending or queued, it is shut and its session is closed
+-- if the input of a connection ends its session, and nothing is pending or queued, the connection is shut and its
+-- session closed
 abbrev pub EndsByBytes : Scene → Scene → Type 0
 EndsByBytes before after =
     (duty : Duty) (link : Link) (answered : IsAnswered duty before after link)

@@ -1,27 +1,27 @@
--- Turns that were taken, as they went (own choice).
+-- Past turns, as they went (own choice).
 use Rattle.std.specs.Prelude.{◌⊎◌, ℕ, List, [], ◌∷◌}
 use Rattle.host_core.specs.Events.{Outcome}
 use Rattle.host_core.specs.Made.{Step}
 use Rattle.socket_loop.specs.Links.{IsAmong}
 use Rattle.socket_loop.specs.Scenes.{Scene}
 
--- a connection that was accepted, and how the host answered its `Open`
+-- an accepted connection, and how the host answered its `Open`
 pub record Accepted : Type 0 where
   pub number : ℕ
   pub outcome : Outcome
 
--- a turn and the wait after it: who was accepted, the steps of the host, and the scene that they left
+-- a turn and the wait after it: the connections accepted, the steps of the host, and the scene after them
 pub record PastTurn : Type 0 where
   pub accepted : List Accepted
   pub steps : List Step
   pub after : Scene
 
--- the scene that these turns left, of which the last one comes first
+-- the scene after these turns, the last of which comes first
 abbrev pub scene_after : Scene → List PastTurn → Scene
 scene_after before [] = before
 scene_after before (last ∷ earlier) = last.after
 
--- it was accepted in one of these turns
+-- the connection of this number was accepted in one of these turns
 abbrev pub WasAccepted : List PastTurn → ℕ → Type 0
 WasAccepted [] number = ⊥
 WasAccepted (last ∷ earlier) number =

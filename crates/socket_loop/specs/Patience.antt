@@ -1,4 +1,4 @@
--- How many turns a session waits at most, whoever else is served (own choice).
+-- How many turns a session waits at most, whatever other sessions do (own choice).
 use Rattle.std.specs.Prelude.{◌≡◌, ◌≤◌, ◌<◌, ◌+◌, ◌*◌, ◌⊎◌, ℕ, zero, suc, List, [], ◌∷◌, true, false, Some}
 use Rattle.session_slots.specs.declared.id.SessionId.{SessionId}
 use Rattle.session_slots.specs.Slots.{find}
@@ -10,13 +10,14 @@ use Rattle.socket_loop.specs.Parts.{work_failed, some_step}
 use Rattle.socket_loop.specs.Past.{PastTurn, scene_after}
 use Rattle.socket_loop.specs.Scenes.{Scene}
 
--- the scene before the last so many of these turns
+-- the scene before the last `n` turns
 abbrev pub before_last : Scene → ℕ → List PastTurn → Scene
 before_last before zero turns = scene_after before turns
 before_last before (suc more) [] = before
 before_last before (suc more) (last ∷ earlier) = before_last before more earlier
 
--- after one of the last so many of the turns a session has nothing pending, or is closed; or a `Work` of it was refused for memory in the turn
+-- after one of the last `n` turns the session is closed or has nothing pending; or its `Work` ran out of memory in
+-- that turn
 abbrev pub IsThroughInLast : ℕ → List PastTurn → SessionId → Type 0
 IsThroughInLast zero turns id = ⊥
 IsThroughInLast (suc more) [] id = ⊥
@@ -25,7 +26,7 @@ IsThroughInLast (suc more) (last ∷ earlier) id =
     ⊎ ((pending_of (find last.after.host.slots id) ≡ false)
     ⊎ (some_step (work_failed id) last.steps ≡ true))
 
--- a session is pending still, and each of so many turns made a slice of what it had to do
+-- a session is still pending, and each of `n` turns took a slice off its load
 pub record IsNearer (slice n : ℕ) (start : SessionView) (after : Scene) (id : SessionId)
     : Type 0 where
   pub session : SessionView
@@ -39,7 +40,8 @@ pub record IsWaiting (scene : Scene) (link : Link) (start : SessionView) : Type 
   pub finds : find scene.host.slots link.id ≡ Some start
   pub pending : is_pending start ≡ true
 
--- the session of each connection that was held and pending before the last so many of these turns is through once in these, or a slice nearer for each of them: so it is through once where they are more than its load has slices
+-- a session pending before the last `more` turns is through after one of them, or each turn took a slice off its
+-- load; it is through if these turns have more slices than its load has steps
 pub record AnswersInLast (slice more : ℕ) (before : Scene) (turns : List PastTurn) : Type 0 where
   pub nearer : (link : Link) (start : SessionView)
       → IsWaiting (before_last before more turns) link start
@@ -50,6 +52,6 @@ pub record AnswersInLast (slice more : ℕ) (before : Scene) (turns : List PastT
       → load start < more * slice
       → IsThroughInLast more turns link.id
 
--- each connection is answered in time from any of these turns on, which are so many
+-- a pending session is answered in time, from each of the last `n` turns on
 abbrev pub AnswersInTime : (slice n : ℕ) → Scene → List PastTurn → Type 0
 AnswersInTime slice n before turns = (more : ℕ) → more ≤ n → AnswersInLast slice more before turns

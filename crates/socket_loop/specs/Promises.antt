@@ -1,4 +1,4 @@
--- All that is promised of a serving (own choice).
+-- All that a serving promises (own choice).
 use Rattle.std.specs.Prelude.{◌≤◌, ◌⊎◌, ℕ, Result, IfOk, IfErr, ◌<◌, Err}
 use Rattle.transport.specs.declared.wire.WireFault.{WireFault}
 use Rattle.transport.specs.Report.{HasCause}
@@ -10,14 +10,16 @@ use Rattle.socket_loop.specs.Patience.{AnswersInTime}
 use Rattle.socket_loop.specs.Past.{WasAccepted}
 use Rattle.host_core.specs.Events.{Outcome}
 
--- so many turns were taken, each with a wait after it; each connection is answered in time, and none that was accepted is forgotten
+-- `count` turns were taken, each with a wait; pending sessions are answered in time, and each accepted connection is
+-- accounted for
 pub record IsDone (slice count : ℕ) (before after : Scene) : Type 0 where
   pub turns : AreTurns slice count before after
   pub in_time : AnswersInTime slice count before (past_of slice count before after turns)
   pub accounted : (number : ℕ) → WasAccepted (past_of slice count before after turns) number
       → IsAccountedFor before after number
 
--- after fewer turns than so many, each with a wait, one more had a wait that failed with this fault; before it each connection is answered in time, and none that was accepted is forgotten
+-- after fewer turns than asked for, one more was taken, whose wait failed with this fault; pending sessions were
+-- answered in time, and each accepted connection is accounted for
 pub record IsStopped (slice most : ℕ) (before after : Scene) (fault : WireFault) : Type 0 where
   pub count : ℕ
   pub few : count < most
@@ -35,7 +37,7 @@ pub record IsStopped (slice most : ℕ) (before after : Scene) (fault : WireFaul
       (record { number = number; outcome = outcome }))
       → IsAccountedFor before after number
 
--- so many turns were taken, each with a wait after it, or a wait failed; and what became of each connection
+-- all turns were taken, each with a wait, or a wait failed; and what became of each connection
 pub record ServesTurns (slice turns : ℕ) (result : Result (Unit {0}) WireFault)
     (before after : Scene) : Type 0 where
   pub done : IfOk result (λ _. IsDone slice turns before after)

@@ -6,7 +6,7 @@ use Rattle.transport.specs.Asked.{Call}
 use Rattle.transport.specs.Report.{Report}
 use Rattle.transport.specs.declared.wire.Wire.{Ghosts}
 
--- some connections, what their wire gave, reports, was asked for and counts, and the host of their sessions
+-- the connections held; the wire's bound, report, calls and count of faults; and the host of their sessions
 pub record Scene : Type 0 where
   pub held : List Connection
   pub bound : ℕ

@@ -12,7 +12,7 @@ use Rattle.socket_loop.specs.Turns.{Fits, any_pending}
 use Rattle.socket_loop.specs.Calls.{Turns}
 use Rattle.socket_loop.specs.Parts.{is_finished}
 
--- a turn: all that is promised of one
+-- a turn, with all that `Loop::turn` promises
 pub record IsTurnTo (slice : ℕ) (before after : Scene) : Type 0 where
   pub moved : Bool
   pub tally : Tally
@@ -26,7 +26,8 @@ pub record IsTurnTo (slice : ℕ) (before after : Scene) : Type 0 where
   pub finished : AreOnce (links_of before.held)
       → Each (λ connection. is_finished after.host connection ≡ false) after.held
 
--- a wait after a turn, with this answer: the connections, the host and all that is reported stay, and the one call that is asked for is a wait so answered, which lasts until something may be ready exactly where the turn did not move
+-- a wait after a turn, with this answer: it is the only call, and lasts until something may be ready exactly if the
+-- turn did not move; connections, host and report stay
 pub record IsWait (moved : Bool) (answer : Result (Unit {0}) WireFault) (before after : Scene)
     : Type 0 where
   pub held : after.held ≡ before.held
@@ -36,13 +37,13 @@ pub record IsWait (moved : Bool) (answer : Result (Unit {0}) WireFault) (before 
   pub faults : before.failed ≤ after.failed
   pub host : after.host ≡ before.host
 
--- a turn, and then a wait that succeeds
+-- a turn, then a wait that succeeds
 pub record IsTurnAndWait (slice : ℕ) (before after : Scene) : Type 0 where
   pub middle : Scene
   pub turn : IsTurnTo slice before middle
   pub wait : IsWait turn.moved (Ok tt) middle after
 
--- so many turns, each with a wait after it
+-- `n` turns, each with a wait after it
 abbrev pub AreTurns : ℕ → ℕ → Scene → Scene → Type 0
 AreTurns slice zero before after = after ≡ before
 AreTurns slice (suc n) before after =

@@ -12,7 +12,7 @@ use Rattle.socket_loop.specs.declared.status.Limits.{Limits}
 use Rattle.socket_loop.specs.declared.status.Totals.{Totals}
 use Rattle.socket_loop.specs.declared.status.Status.{Status}
 
--- no turn yet
+-- all zero
 abbrev pub no_totals : Totals
 no_totals = record {
   turns = 0;
@@ -27,7 +27,7 @@ no_totals = record {
   bestmoves = 0;
 }
 
--- one more turn, of these numbers
+-- the sums after one more turn with this tally
 abbrev pub counted : Totals → Tally → Totals
 counted totals tally = record {
   turns = plus totals.turns 1;
@@ -42,7 +42,7 @@ counted totals tally = record {
   bestmoves = plus totals.bestmoves tally.bestmoves;
 }
 
--- the numbers of a host, its connections and its wire; so many calls failed beside those of the wire
+-- the numbers of a host, its connections and its wire; `faults` counts the failed calls beside the wire's
 abbrev pub status_from : {L A S : Type 0} → Process → Limits → Totals → ℕ → HostState → LoopState
     → StreamWire L A S → Status
 status_from process limits totals faults host connections wire = record {

@@ -1,17 +1,17 @@
--- The line of a status: one object of JSON, whose names are in this order (own choice).
+-- The line of a status: one JSON object, with names in this order (own choice).
 use Rattle.std.specs.Prelude.{ℕ, ◌-◌, ◌++◌, List, codes, decimal}
 use Rattle.shogi_eval.specs.declared.eval.Eval.{Eval}
 use Rattle.shogi_eval.specs.declared.eval.Eval.TheVariants.{Plain, Hand, Exchange}
 use Rattle.socket_loop.specs.declared.status.Status.{Status}
 
--- an evaluation by the word that `--eval` has for it
+-- the value of `--eval` for an evaluation
 abbrev pub eval_word : Eval → List ℕ
 eval_word Plain = codes "plain"
 eval_word Hand = codes "hand"
 eval_word Exchange = codes "exchange"
 
--- the process, what the host was started with, what its sessions begin under, what it has now (those that wait are those
--- that do not search), who came, who went, what was searched, what was refused or failed, and the bytes
+-- the process, its limits, the setup of sessions, its present state, connections, searches, refusals, failures and
+-- bytes; `waiting` counts the sessions that are not searching
 abbrev pub status_line : Status → List ℕ
 status_line status =
     codes "{\"version\":\"0.1.0\""

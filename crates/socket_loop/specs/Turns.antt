@@ -1,4 +1,4 @@
--- A turn of a loop (own choice).
+-- A turn of the loop (own choice).
 use Rattle.std.specs.Prelude.{◌≡◌, ◌+◌, ◌<◌, ◌≤◌, ◌⊎◌, ℕ, List, [], ◌∷◌, ◌++◌, codes, map, true, IsSome, Option, Bool, false, ◌||◌, ◌≢◌}
 use Rattle.std.specs.Io.KnownBytes.{Keeps, Appends, Consumes}
 use Rattle.session_slots.specs.declared.id.SessionId.{SessionId}
@@ -29,7 +29,7 @@ pub record LoopState : Type 0 where
   pub slice : ℕ
   pub held : List Connection
 
--- from a loop, a host and a wire to these later on, by their scenes; the budget stays
+-- a relation between two scenes, of a loop, a host and a wire before and after; the budget stays
 pub record Over {W : Type 0} (wires : Ghosts W) (Relates : Scene → Scene → Type 0)
     (old : LoopState) (before : HostState) (from : W) (new : LoopState) (after : HostState) (to : W)
     : Type 0 where
@@ -38,7 +38,7 @@ pub record Over {W : Type 0} (wires : Ghosts W) (Relates : Scene → Scene → T
 
 -- ---- the condition of a turn
 
--- a number that was given by the wire, and an id that was opened by the host; each number has one id
+-- a link that fits: its number came from the wire, its id from the host, and no other link shares just one of them
 pub record FitsOne (links : List Link) (bound : ℕ) (host : HostState) (link : Link) : Type 0 where
   pub tied : Each (λ other. Ties other link) links
   pub number : link.number < bound
@@ -47,14 +47,14 @@ pub record FitsOne (links : List Link) (bound : ℕ) (host : HostState) (link : 
 abbrev pub Fits : List Link → ℕ → HostState → Type 0
 Fits links bound host = (link : Link) → IsAmong links link → FitsOne links bound host link
 
--- each of these has an open session of its own
+-- each link has an open session of its own
 pub record HaveSessions (host : HostState) (links : List Link) : Type 0 where
   pub once : AreOnce links
   pub open_all : (link : Link) → IsAmong links link → IsSome (find host.slots link.id)
 
 -- ---- new connections
 
--- the numbers of these rise, each from this one on and below that one
+-- rising numbers, at least `from` and below `to`
 abbrev pub AreNumbered : ℕ → List Accepted → ℕ → Type 0
 AreNumbered from [] to = from ≤ to
 AreNumbered from (first ∷ rest) to = (from ≤ first.number) × AreNumbered (first.number + 1) rest to
@@ -63,12 +63,13 @@ AreNumbered from (first ∷ rest) to = (from ≤ first.number) × AreNumbered (f
 abbrev pub host_full : List ℕ
 host_full = codes "info string host full\n"
 
--- what is written to a connection whose `Open` was refused: that the host is full, where it is, and nothing where memory ran out
+-- the text written to a connection whose `Open` was refused: `info string host full` if the host is full, nothing if
+-- memory ran out
 abbrev pub rejection_text : HostFault → List ℕ
 rejection_text Full = host_full
 rejection_text _ = []
 
--- a new connection was rejected, since its `Open` was refused: it was written a prefix of what it is due, and shut
+-- a new connection was rejected, as its `Open` was refused: it was written a prefix of its text, and shut
 pub record IsRejected (from to : ℕ) (accepted : List Accepted) (old new : Report) (number : ℕ)
     : Type 0 where
   pub least : from ≤ number
@@ -83,7 +84,7 @@ pub record IsRejected (from to : ℕ) (accepted : List Accepted) (old new : Repo
   pub shut : IsRaised (old.is_shut number) (new.is_shut number)
   pub failed : OnlyRises (old.has_failed number) (new.has_failed number)
 
--- a connection that was accepted has a session, which was opened for it
+-- an accepted connection is held with the session opened for it
 abbrev pub HasSession : List Link → Accepted → Type 0
 HasSession met new =
     (link : Link)
@@ -91,7 +92,8 @@ HasSession met new =
 
 -- ---- a turn
 
--- what was read from a connection, and written to it: all that its session owes to what was read, but for what it owes still; or, where it is closed, a prefix of it
+-- a connection was served: what was written, then what its session still owes, is what is owed for the bytes read; if
+-- the session is closed, a prefix of it was written
 pub record Served (owes : List ℕ → List ℕ) (old new : Report) (number : ℕ)
     (now : Option SessionView) : Type 0 where
   pub read : List ℕ
@@ -103,7 +105,7 @@ pub record Served (owes : List ℕ → List ℕ) (old new : Report) (number : �
   pub ends : EndsFrom owes read written now
   pub whole : IsSome now → lost ≡ []
 
--- each of these connections that is not one of those before: its session began under the setup of the host
+-- each new connection was served from the replies under the host's setup
 abbrev pub ServesNew : Scene → List Link → Scene → Type 0
 ServesNew before met after =
     (link : Link)
@@ -112,7 +114,8 @@ ServesNew before met after =
     ⊎ Served (replies_under before.host.setup) before.report after.report link.number
     (find after.host.slots link.id)
 
--- a connection was accepted in the turn, with a session of this generation or a later one, and below that one, which the admissions opened and left open
+-- a connection was accepted in the turn, with a session of a generation from `next` on and below `last`, which the
+-- admissions opened and left open
 pub record Joins (from to : ℕ) (accepted : List Accepted) (next last : ℕ) (admissions : List Step)
     (link : Link) : Type 0 where
   pub least : from ≤ link.number
@@ -134,7 +137,7 @@ pub record TurnSteps : Type 0 where
   pub outputs_are : Each (λ step. IsOutput step.event) outputs
   pub ends_are : Each (λ step. IsEnd step.event) ends
 
--- what the host did: sessions were opened, then fed or closed; one round; then bytes were taken or sessions closed, and at last sessions closed
+-- what the host did: opens; feeds and closes; one round; takes and closes; closes
 pub record RunsHost (slice : ℕ) (before after : HostState) : Type 0 where
   pub parts : TurnSteps
   pub start : HostState
@@ -150,7 +153,8 @@ pub record RunsHost (slice : ℕ) (before after : HostState) : Type 0 where
       ++ (works slice (pending_ids start) round.outcomes ++ (parts.outputs ++ parts.ends))
   pub chain : IsRun before steps after
 
--- whom the turn met: those who were held, and those who were accepted with a session; where nothing moved nobody was accepted
+-- the connections met in a turn: those held before, and those accepted with a session; if nothing moved, none was
+-- accepted
 pub record Meets (moved : Bool) (before after : Scene) (admissions : List Step) : Type 0 where
   pub met : List Link
   pub accepted : List Accepted
@@ -169,7 +173,8 @@ pub record Meets (moved : Bool) (before after : Scene) (admissions : List Step) 
       → HasSession met new_one
       ⊎ IsRejected before.bound after.bound accepted before.report after.report new_one.number
 
--- what became of each connection: the bytes of those that were met were carried by the steps, and those that were shut are held no more; the reads of those that are marked so have ended
+-- what became of each connection: a met one gave and took the bytes of its steps, and is no longer held once shut;
+-- only reads that ended are marked so
 pub record Treats (before after : Scene) (met : List Link) (accepted : List Accepted)
     (steps : List Step) : Type 0 where
   pub marks : List Connection
@@ -195,7 +200,7 @@ pub record Treats (before after : Scene) (met : List Link) (accepted : List Acce
       → Each (λ other. other.id ≢ id) met → LeavesUntouched id steps
   pub all : AllMove before.report after.report
 
--- accept, read, work, write and shut, in this order, and with one round
+-- a turn: accept, read, one round of work, write and shut, in this order
 pub record IsTurn (slice : ℕ) (moved : Bool) (before after : Scene) : Type 0 where
   pub host : RunsHost slice before.host after.host
   pub meets : Meets moved before after host.parts.admissions
@@ -214,13 +219,13 @@ EndsOrShuts old new =
     ((old.has_ended ≡ false) × (new.has_ended ≡ true))
     ⊎ ((old.is_shut ≡ false) × (new.is_shut ≡ true))
 
--- place by place, the reads of one of them ended, or it was shut
+-- the reads of one of the connections ended, or it was shut
 abbrev pub OneEndsOrShuts : List Connection → List Connection → Type 0
 OneEndsOrShuts [] ys = ⊥
 OneEndsOrShuts (x ∷ xs) [] = ⊥
 OneEndsOrShuts (x ∷ xs) (y ∷ ys) = EndsOrShuts x y ⊎ OneEndsOrShuts xs ys
 
--- one of these connections gave or took at least one byte, or ended, or was shut, where those that were shut are held no more
+-- a connection gave or took at least one byte, or ended, or was shut; those shut are no longer held
 pub record StirsHeld (old : Report) (held : List Connection) (new : Report) (now : List Connection)
     : Type 0 where
   pub last : List Connection
@@ -229,7 +234,7 @@ pub record StirsHeld (old : Report) (held : List Connection) (new : Report) (now
   pub stirs : ((link : Link) × (IsAmong (links_of held) link × Transfers old new link.number))
       ⊎ OneEndsOrShuts held last
 
--- a session of one of these is pending
+-- the session of one of the links is pending
 abbrev pub any_pending : HostState → List Link → Bool
 any_pending host [] = false
 any_pending host (link ∷ rest) = pending_of (find host.slots link.id) || any_pending host rest

@@ -26,22 +26,22 @@ use Rattle.socket_loop.specs.declared.connection.Link.{Link}
 abbrev pub WantsInput : HostState → SessionId → Type 0
 WantsInput host id = wants_input_of (find host.slots id) ≡ true
 
--- where nothing moved, all that is reported stays, and the connections are as they were
+-- if nothing moved, the report and the connections stay
 abbrev pub IsQuiet : {X : Type 0} → Bool → Report → X → Report → X → Type 0
 IsQuiet moved old held new now = moved ≡ false → KeepsAll old new × (now ≡ held)
 
--- one of these connections gave or took at least one byte, or ended, or was shut
+-- a connection gave or took at least one byte, or ended, or was shut
 abbrev pub Stirs : Report → List Connection → Report → List Connection → Type 0
 Stirs old held new now =
     ((link : Link) × (IsAmong (links_of held) link × Transfers old new link.number))
     ⊎ OneEndsOrShuts held now
 
--- the session was closed, where it was open
+-- the session was closed, if it was open
 pub record IsClosing (old : HostState) (id : SessionId) (new : HostState) : Type 0 where
   pub outcome : Outcome
   pub step : IsStep old (record { event = Close id; outcome = outcome }) new
 
--- the steps of the host carry the bytes of each of these connections, and of no other
+-- the steps of the host carry the bytes of these connections, and of no other
 pub record Carries (marks : List Connection) (bound : ℕ) (links : List Link) (old : Report)
     (before : HostState) (steps : List Step) (new : Report) (after : HostState) : Type 0 where
   pub chain : IsRun before steps after
@@ -51,7 +51,7 @@ pub record Carries (marks : List Connection) (bound : ℕ) (links : List Link) (
   pub foreign : (id : SessionId) → Each (λ other. other.id ≢ id) links → LeavesUntouched id steps
   pub all : AllMove old new
 
--- some steps of this kind, with these connections
+-- steps of this kind carry the bytes of these connections
 pub record CarriesBy (kind : Event → Type 0) (marks : List Connection) (bound : ℕ)
     (links : List Link) (old : Report) (before : HostState) (new : Report) (after : HostState)
     : Type 0 where
@@ -59,13 +59,14 @@ pub record CarriesBy (kind : Event → Type 0) (marks : List Connection) (bound 
   pub kinds : Each (λ step. kind step.event) steps
   pub carries : Carries marks bound links old before steps new after
 
--- the same of the connections that are held
+-- steps of this kind carry the bytes of the connections held
 abbrev pub TransfersHeld : (Event → Type 0) → List Connection → Scene → Scene → Type 0
 TransfersHeld kind marks before after =
     CarriesBy kind marks before.bound (links_of before.held) before.report before.host
     after.report after.host
 
--- where the reads of a connection have ended, they had ended before, or nothing is left; where it was shut, it was shut before, or the wire reports so
+-- if the reads of a connection are marked as ended, they were before, or nothing is left to read; if it is marked as
+-- shut, it was before, or the wire reports it
 pub record KeepsMarks (bound : ℕ) (old : Report) (held : List Connection) (new : Report)
     (now : List Connection) (number : ℕ) : Type 0 where
   pub ended : IsMarked reads_ended now number
@@ -84,8 +85,8 @@ AllKeepMade [] (y ∷ ys) = ⊥
 AllKeepMade (x ∷ xs) [] = ⊥
 AllKeepMade (x ∷ xs) (y ∷ ys) = KeepsMade x y × AllKeepMade xs ys
 
--- a connection was visited with steps of this kind: it is linked as before, and its marks stay; where it is shut now and
--- was not before, its session is open no more, and the wire reports that it is shut
+-- a connection was visited with steps of this kind: its link and its marks stay; if it was shut now, its session is
+-- closed and the wire reports the shut
 pub record IsVisited (kind : Event → Type 0) (old new : Connection) (before after : Scene)
     : Type 0 where
   pub steps : Visits kind old.link.id before.host after.host
@@ -101,8 +102,8 @@ pub record IsVisited (kind : Event → Type 0) (old new : Connection) (before af
   pub faults : before.failed ≤ after.failed
   pub next : before.host.slots.next ≤ after.host.slots.next
 
--- it was visited, with the calls that are due; where that moved it gave or took at least one byte, ended or was shut, and
--- else all that is reported stays, and it is as it was
+-- a connection was visited with the calls due; if that moved, it gave or took at least one byte, ended or was shut;
+-- otherwise the report and the connection stay
 pub record VisitsOne (due : HostState → Connection → Connection → List Call) (kind : Event → Type 0)
     (moved : Bool) (old new : Connection) (before after : Scene) : Type 0 where
   pub visit : IsVisited kind old new before after
@@ -111,8 +112,8 @@ pub record VisitsOne (due : HostState → Connection → Connection → List Cal
   pub stirs : moved ≡ true
       → Transfers before.report after.report old.link.number ⊎ EndsOrShuts old new
 
--- a connection was fed these bytes, or shut where an allocation failed; where it gave these bytes before, and no call of it
--- failed then, its bytes are carried from there
+-- a connection's session was fed these bytes, or the connection was shut as memory ran out; if it had just given
+-- these bytes without a failed call, the steps carry them
 pub record FeedsOne (chunk : List ℕ) (old new : Connection) (before after : Scene) : Type 0 where
   pub visit : IsVisited IsInput old new before after
   pub asked : old.is_shut ≡ false → Asks before.asked after.asked (shuts_of old new)
@@ -124,14 +125,15 @@ pub record FeedsOne (chunk : List ℕ) (old new : Connection) (before after : Sc
   pub unread : Keeps (before.report.unread old.link.number) (after.report.unread old.link.number)
   pub given : Keeps (before.report.given old.link.number) (after.report.given old.link.number)
 
--- where the reads of a connection have ended, they had ended before, or nothing is left to be read
+-- if the reads of a connection have ended, they had before, or nothing is left to read
 abbrev pub EndsEmptied : Connection → Connection → Report → Report → Type 0
 EndsEmptied old new before after =
     new.has_ended ≡ true
     → (old.has_ended ≡ true)
     ⊎ IsEmptied (before.unread old.link.number) (after.unread old.link.number)
 
--- it was visited in a part of a turn, and its bytes are carried; where it was shut as finished with, by these marks
+-- a connection was visited in a part of a turn, and its bytes are carried; if it is shut as finished with, `marks`
+-- has its ended reads
 pub record CarriesOne (part : Part) (moved : Bool) (old new : Connection) (before after : Scene)
     : Type 0 where
   pub visited : VisitsOne (calls_of part) (steps_of part) moved old new before after
@@ -139,9 +141,9 @@ pub record CarriesOne (part : Part) (moved : Bool) (old new : Connection) (befor
       → (part ≡ End → old.has_ended ≡ true → IsMarked reads_ended marks old.link.number)
       → TransfersHeld (steps_of part) marks before after
 
--- ---- the same of a connection, a host and a wire of the code
+-- ---- visits of the code's connections, hosts and wires
 
--- from a connection, a host and a wire to these later on, by their scenes
+-- a relation between two connections and their scenes, of a host and a wire before and after
 abbrev pub OverOne : {W : Type 0} → Ghosts W → (Connection → Connection → Scene → Scene → Type 0)
     → Connection → HostState → W → Connection → HostState → W → Type 0
 OverOne wires Relates old before from new after to =
@@ -149,8 +151,8 @@ OverOne wires Relates old before from new after to =
 
 -- ---- one connection after the other
 
--- the first connections were visited, one after the other, with the calls that are due; where that moved one of them gave
--- or took at least one byte, ended or was shut, and else all that is reported stays, and they are as they were
+-- the first `n` connections were visited with the calls due; if that moved, one gave or took at least one byte, ended
+-- or was shut; otherwise the report and the connections stay
 pub record VisitsTo (n : ℕ) (due : HostState → Connection → Connection → List Call)
     (kind : Event → Type 0) (moved : Bool) (before after : Scene) : Type 0 where
   pub asked : AsksTo n due kind before.host before.held after.held before.asked after.asked
@@ -164,13 +166,14 @@ pub record VisitsTo (n : ℕ) (due : HostState → Connection → Connection →
   pub bound : after.bound ≡ before.bound
   pub faults : before.failed ≤ after.failed
 
--- each was shut that was finished with, and no other; no reads end
+-- each connection that was finished with was shut; no reads end
 pub record EndsEach (before after : Scene) : Type 0 where
   pub ended : (number : ℕ) → IsMarked reads_ended after.held number
       → IsMarked reads_ended before.held number
   pub left : AreOnce (links_of before.held) → Each (IsLeft after.host) after.held
 
--- each was visited in a part of a turn, and the bytes of each are carried; where they were shut as finished with, by these marks
+-- each connection was visited in a part of a turn, and its bytes are carried; if it is shut as finished with, `marks`
+-- has its ended reads
 pub record CarriesEach (part : Part) (moved : Bool) (before after : Scene) : Type 0 where
   pub visited : VisitsTo (length before.held) (calls_of part) (steps_of part) moved before after
   pub carries : (marks : List Connection)

@@ -2,19 +2,19 @@
 
 use session_slots::SessionId;
 
-/// A connection's number on its wire, and the id of its session.
+/// A connection's number on its wire, and its session's id.
 #[derive(Clone, Copy, Debug, PartialEq, Eq)]
 pub struct Link {
     pub number: u64,
     pub id: SessionId,
 }
 
-/// A connection that a loop holds.
+/// A connection in a loop.
 #[derive(Clone, Copy, Debug, PartialEq, Eq)]
 pub struct Connection {
     pub link: Link,
-    /// Its reads have ended.
+    /// Reading from the connection has ended.
     pub has_ended: bool,
-    /// It was shut, and is removed at the end of the turn.
+    /// The connection was shut; the turn removes it at its end.
     pub is_shut: bool,
 }

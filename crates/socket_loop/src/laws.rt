@@ -1,25 +1,24 @@
-//! What follows of any servings.
+//! Laws that follow from the contracts of any two servings.
 
 ghost use Rattle.socket_loop.specs.Alone.{AnswersAsAlone, IsolatesConnections};
 ghost use Rattle.socket_loop.specs.Numbers.{AreNumbers};
 
-/// Connections do not see one another. Two servings of any hosts of one setup over any wires wrote the
-/// same to two undisturbed connections from which the same bytes were read. All else may differ: the
-/// other connections and what they do, the tables, the slots, the budgets and how the bytes were cut.
-/// One of the two may have been served alone.
+/// Connections are isolated. If two servings, of any hosts with one setup over any wires, read the
+/// same bytes from two undisturbed connections, they wrote the same to both. Other connections,
+/// tables, slots, budgets and the way the bytes were cut may differ; one of the two may have been
+/// served alone.
 pub fn isolation()
     ensures { IsolatesConnections }
 {}
 
-/// A connection is answered as a session of its own. What was written to an undisturbed one is what
-/// `stdio_with_setup` writes for the same bytes under the setup of the host, whatever the other
-/// connections did.
+/// Each connection is answered as if it were alone. An undisturbed one is written what
+/// `stdio_with_setup` writes for its input under the host's setup, whatever other connections do.
 pub fn answers_as_alone()
     ensures { AnswersAsAlone }
 {}
 
-/// How many are accepted in a turn, have a session at a time and are told the status after a turn, and
-/// the room for its line, are these numbers.
+/// The limits of a loop: accepts in a turn, sessions at a time, status clients answered after a
+/// turn, and the room for a status line.
 pub fn numbers()
     ensures { AreNumbers }
 {}

@@ -1,4 +1,5 @@
-//! A loop that serves the sessions of a host to connections, turn after turn, and tells what it counts.
+//! The event loop that serves the sessions of a host to connections, turn by turn, and counts what
+//! it does.
 #![tactic(auto)]
 
 mod connection;

@@ -1,4 +1,4 @@
-//! The numbers of a status.
+//! The numbers that a host shows to its operator.
 
 ghost use Rattle.std.specs.Prelude.{◌≡◌};
 ghost use Rattle.socket_loop.specs.Status.{counted, status_from};
@@ -12,48 +12,48 @@ use stream_transport::MioWire;
 use transport::Wire;
 use usi_texts::Setup;
 
-/// The process of a host.
+/// The process that runs a host.
 #[derive(Clone, Copy, Debug, PartialEq, Eq)]
 pub struct Process {
-    /// The number by which signals reach it.
+    /// The process id, to which signals go.
     pub pid: u32,
-    /// When it was started, in seconds since 1970 began (UTC); 0 where no clock told it.
+    /// Start time in seconds since 1970 (UTC); 0 if no clock gave it.
     pub started: u64,
 }
 
-/// What a host was started with.
+/// The limits a host was started with.
 #[derive(Clone, Copy, Debug, PartialEq, Eq)]
 pub struct Limits {
-    /// How many sessions may be open at a time.
+    /// Most sessions open at a time.
     pub slots: u64,
-    /// How many entries the table may have.
+    /// Most entries of the transposition table.
     pub entries: u64,
-    /// How many steps of search a session may make in a turn.
+    /// Most steps of search by one session in a turn.
     pub slice: u64,
 }
 
-/// The sums over all turns so far. Each stays at the greatest number once it is there.
+/// Sums over all turns so far. Each sum stops at 18,446,744,073,709,551,615.
 #[derive(Clone, Copy, Debug, PartialEq, Eq)]
 pub struct Totals {
-    /// The turns that were taken.
+    /// Turns taken.
     pub turns: u64,
-    /// The connections that were accepted.
+    /// Connections accepted.
     pub accepted: u64,
-    /// Those of them that found the host full.
+    /// Accepted connections that found the host full.
     pub full: u64,
-    /// Those of them for whose session there was no memory.
+    /// Accepted connections without memory for a session.
     pub unopened: u64,
-    /// The connections that were shut as they were read.
+    /// Connections shut by a read: the read failed, or memory ran out for its bytes.
     pub ended_reading: u64,
-    /// The connections that were shut as they were written.
+    /// Connections shut by a failed write.
     pub ended_writing: u64,
-    /// The connections that were shut as they were finished with.
+    /// Connections shut after their session was answered, or was gone.
     pub finished: u64,
-    /// How often a session had no memory for its work.
+    /// How often a session ran out of memory for its work.
     pub refused_work: u64,
-    /// The steps of search.
+    /// Steps of search.
     pub steps: u64,
-    /// The `bestmove` lines that were queued: one for each `go` that was answered.
+    /// `bestmove` lines queued: one for each answered `go`.
     pub bestmoves: u64,
 }
 
@@ -62,31 +62,31 @@ pub struct Totals {
 pub struct Status {
     pub process: Process,
     pub limits: Limits,
-    /// Under what each session begins.
+    /// The setup of each new session.
     pub setup: Setup,
     pub totals: Totals,
-    /// The connections that are held, each with a session.
+    /// Connections held, each with a session.
     pub used: u64,
-    /// Those of them whose session has something to do: a search, or lines to answer.
+    /// Connections whose session is pending: it searches, or has unread lines.
     pub searching: u64,
-    /// The entries of the table that are used.
+    /// Entries in use in the transposition table.
     pub filled: u64,
-    /// How often there was no memory for what the table was to note.
+    /// Entries that the table could not store for want of memory.
     pub refused_notes: u64,
-    /// How often the table was asked.
+    /// Probes of the table.
     pub probes: u64,
-    /// How often it had an answer.
+    /// Probes that found an entry.
     pub hits: u64,
-    /// The bytes that were read from connections.
+    /// Bytes read from connections.
     pub received: u64,
-    /// The bytes that were written to connections.
+    /// Bytes written to connections.
     pub sent: u64,
-    /// The calls that the system failed, of the wire and of the status.
+    /// Failed system calls, of the wire and of the status socket.
     pub faults: u64,
 }
 
 impl Totals {
-    /// Nothing yet.
+    /// All zero.
     pub const NONE: Totals = Totals {
         turns: 0,
         accepted: 0,
@@ -100,7 +100,7 @@ impl Totals {
         bestmoves: 0,
     };
 
-    /// Counts one more turn.
+    /// Adds one turn with this tally.
     pub fn count(&mut self, tally: &Tally)
         ensures { self.new ≡ counted self.old tally.now }
     {
@@ -121,7 +121,8 @@ impl Totals {
     }
 }
 
-/// The numbers of a host, its connections and its wire; so many calls failed beside those of the wire.
+/// Collects the numbers of a host, its connections and its wire. `faults` counts failed calls of
+/// the status socket, which the wire does not count.
 pub fn status_of<S: BuildHasher, A: Allocator + Copy>(
     process: Process,
     limits: Limits,

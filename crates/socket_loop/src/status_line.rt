@@ -1,4 +1,4 @@
-//! The numbers of a status as one line of JSON.
+//! A status as one line of JSON.
 
 ghost use Rattle.std.specs.Prelude.{◌≡◌, [], ◌++◌, codes, decimal, OnErr, OnOk};
 ghost use Rattle.socket_loop.specs.StatusLine.{eval_word, status_line};
@@ -8,7 +8,7 @@ use itoa::Buffer;
 use shogi_eval::Eval;
 use std::alloc::{AllocError, Allocator};
 
-/// More than the longest line has.
+/// Room for a line, in bytes; the longest line is shorter.
 pub const LINE_MAX: usize = 1024;
 
 /// Appends a text and a number.
@@ -20,7 +20,7 @@ fn put<A: Allocator>(out: &mut Vec<u8, A>, text: &[u8], n: u64) -> Result<(), Al
     out.extend_from_slice(buffer.format(n).as_bytes())
 }
 
-/// An evaluation by the word that `--eval` has for it.
+/// The value of `--eval` for an evaluation.
 fn word_of(eval: Eval) -> &'static [u8]
     ensures { result.now ≡ eval_word eval }
 {
@@ -31,7 +31,7 @@ fn word_of(eval: Eval) -> &'static [u8]
     }
 }
 
-/// Makes the line, with its LF, in the place of what was there. After an error nothing is there.
+/// Replaces the contents of `out` by the line and its LF. Out of memory leaves `out` empty.
 pub fn write_line<A: Allocator>(out: &mut Vec<u8, A>, status: &Status) -> Result<(), AllocError>
     ensures ok { OnOk result (out.new.items ≡ status_line status.now) }
     ensures err { OnErr result (out.new.items ≡ []) }
@@ -43,7 +43,7 @@ pub fn write_line<A: Allocator>(out: &mut Vec<u8, A>, status: &Status) -> Result
     written
 }
 
-/// The same, but for what is there after an error.
+/// Like `write_line`, but out of memory may leave part of the line.
 fn write_fields<A: Allocator>(out: &mut Vec<u8, A>, status: &Status) -> Result<(), AllocError>
     ensures { OnOk result (out.new.items ≡ status_line status.now) }
 {

@@ -1,58 +1,57 @@
-//! What a turn counts.
+//! The counts of a turn.
 
 ghost use Rattle.std.specs.Prelude.{◌≡◌, ◌≤◌, ◌&&◌, cond, not};
 
-/// The numbers of a turn.
+/// The counts of a turn.
 #[derive(Clone, Copy, Debug, PartialEq, Eq)]
 pub struct Tally {
-    /// The connections that were accepted.
+    /// Connections accepted.
     pub accepted: usize,
-    /// Those of them that found the host full.
+    /// Accepted connections that found the host full.
     pub full: usize,
-    /// Those of them for whose session there was no memory.
+    /// Accepted connections without memory for a session.
     pub unopened: usize,
-    /// The connections that were shut as they were read: a read failed, or there was no memory for what
-    /// it gave.
+    /// Connections shut by a read: the read failed, or memory ran out for its bytes.
     pub ended_reading: usize,
-    /// The connections that were shut as they were written: a write failed.
+    /// Connections shut by a failed write.
     pub ended_writing: usize,
-    /// The connections that were shut as they were finished with.
+    /// Connections shut when they were finished with.
     pub finished: usize,
-    /// The sessions that had no memory for their work in this turn.
+    /// Sessions that ran out of memory for their work.
     pub refused: usize,
-    /// The steps of search.
+    /// Steps of search.
     pub steps: u64,
-    /// The `bestmove` lines that were queued: one for each `go` that was answered.
+    /// `bestmove` lines queued: one for each answered `go`.
     pub bestmoves: u64,
 }
 
-/// What became of those who came.
+/// The outcome of the accepts of a turn.
 #[derive(Clone, Copy)]
 pub struct Arrivals {
-    /// One was accepted.
+    /// At least one connection was accepted.
     pub moved: bool,
     pub accepted: usize,
     pub full: usize,
     pub unopened: usize,
 }
 
-/// What became of one who came: both are 0 where a session was opened, and else one of them is 1.
+/// The outcome of one accept: both 0 if a session was opened, otherwise one of them is 1.
 #[derive(Clone, Copy)]
 pub struct Admission {
     pub full: usize,
     pub unopened: usize,
 }
 
-/// What a visit of each connection did.
+/// The outcome of visiting each connection once.
 #[derive(Clone, Copy)]
 pub struct Visited {
-    /// Something moved.
+    /// At least one visit moved something.
     pub moved: bool,
-    /// How many were shut.
+    /// Connections shut by the visits.
     pub shut: usize,
 }
 
-/// One where a connection was shut that was not before, and else none.
+/// 1 if a visit shut the connection, otherwise 0.
 pub fn newly_shut(was_shut: bool, is_shut: bool) -> usize
     ensures count { result ≡ cond (is_shut && not was_shut) 1 0 }
     ensures most { result ≤ 1 }
@@ -60,7 +59,7 @@ pub fn newly_shut(was_shut: bool, is_shut: bool) -> usize
     if is_shut && !was_shut { 1 } else { 0 }
 }
 
-/// One where it is so, and else none.
+/// 1 if true, otherwise 0.
 pub fn one_if(is_so: bool) -> usize
     ensures count { result ≡ cond is_so 1 0 }
     ensures most { result ≤ 1 }

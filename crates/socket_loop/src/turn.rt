@@ -1,4 +1,4 @@
-//! A loop that serves the sessions of a host to the connections of a wire.
+//! The loop over the connections of a wire, and one turn of it.
 
 ghost use Rattle.std.specs.Prelude.{false, insert, ◌≡◌, ◌≤◌, ◌<◌, [], ◌∷◌, ◌+◌, length, IfOk, vec_capacity};
 ghost use Rattle.socket_loop.specs.Accepting.{new_connection, place_for, AcceptsAll, AdmitsOne, IsShutAfterPrefix};
@@ -24,20 +24,20 @@ use std::hash::BuildHasher;
 use std::marker::Model;
 use transport::Wire;
 
-/// The most connections that are accepted in a turn.
+/// The most connections accepted in a turn.
 pub const ACCEPTS: usize = 16;
 
-/// What a turn did.
+/// The outcome of a turn.
 #[derive(Clone, Copy, Debug, PartialEq, Eq)]
 pub struct Turn {
-    /// A connection was accepted, gave or took at least one byte, ended or was shut, or the session of
-    /// a connection is still pending.
+    /// A connection was accepted, gave or took at least one byte, ended or was shut, or the session
+    /// of a connection is still pending.
     pub moved: bool,
-    /// What it counted.
+    /// The counts of the turn.
     pub tally: Tally,
 }
 
-/// The connections that are served, by rising slot of their sessions, and the budget of each round.
+/// The connections served, by rising slot of their sessions, and the step budget of each round.
 #[derive(Drop)]
 pub struct Loop<A: Allocator + Copy> {
     slice: u64,
@@ -56,7 +56,7 @@ impl<A: Allocator + Copy> Model for Loop<A> {
     ghost invariant = { λ l. SESSIONS_MAX < vec_capacity l.held };
 }
 
-/// The place for a connection whose session has this slot.
+/// The index at which a connection with this slot keeps the slots rising.
 fn place_of(held: &[Connection], slot: usize) -> usize
     ensures place { result ≡ place_for slot held.now }
     ensures within { result ≤ length held.now }
@@ -69,7 +69,7 @@ fn place_of(held: &[Connection], slot: usize) -> usize
     held.len()
 }
 
-/// Drops the connections that were shut.
+/// Removes the connections that were shut.
 fn retain_open<A: Allocator>(held: &mut Vec<Connection, A>)
     ensures left { held.new.items ≡ unshut_of held.old.items }
     ensures capacity { vec_capacity held.new ≡ vec_capacity held.old }
@@ -77,7 +77,7 @@ fn retain_open<A: Allocator>(held: &mut Vec<Connection, A>)
     held.retain(|connection| !connection.is_shut);
 }
 
-/// Writes to a connection, in one write, that the host is full, and shuts it.
+/// Writes `info string host full` in one write, which may take only a part, and shuts the connection.
 fn reject<W: Wire>(wire: &mut W, number: u64)
     ensures asked { IsAsked W.Wire wire.old wire.new (Write number host_full ∷ Shut number ∷ []) }
     ensures away { IsShutAfterPrefix (W.bound wire.old) host_full (W.report wire.old)
@@ -90,9 +90,9 @@ fn reject<W: Wire>(wire: &mut W, number: u64)
 }
 
 impl<A: Allocator + Copy> Loop<A> {
-    /// No connection yet. Each round has this budget, which is at least 1. A place for each session that
-    /// a host may have, and one more, is made now, in 32 bytes each, so that a turn takes no memory for
-    /// them.
+    /// A loop without connections, whose rounds have a budget of `slice` steps. Reserves 32 bytes
+    /// for each of `SESSIONS_MAX + 1` connections, which lets turns add connections without
+    /// allocation. Fails if out of memory.
     pub fn new(alloc: A, slice: u64) -> Result<Loop<A>, AllocError>
         requires { 1 ≤ slice }
         ensures { IfOk result (λ l. l ≡ record { slice = slice; held = [] }) }
@@ -101,7 +101,7 @@ impl<A: Allocator + Copy> Loop<A> {
         Ok(Loop { slice, held })
     }
 
-    /// Holds a new connection with its session, where there is a place.
+    /// Inserts a new connection with its session by rising slot.
     fn add_connection(&mut self, link: Link)
         requires room { length self.old.held ≤ SESSIONS_MAX }
         ensures held { self.new.held
@@ -119,8 +119,8 @@ impl<A: Allocator + Copy> Loop<A> {
         }
     }
 
-    /// Opens a session for a new connection, which is held with it. Where the host is full it is written
-    /// so and shut; where there is no memory for a session it is shut without a word.
+    /// Opens a session for a new connection and holds both. If the host is full the connection is
+    /// told and shut; if memory runs out for a session it is shut without a word.
     fn admit<W: Wire, S: BuildHasher>(
         &mut self,
         host: &mut Host<S, A>,
@@ -157,8 +157,8 @@ impl<A: Allocator + Copy> Loop<A> {
         }
     }
 
-    /// Accepts new connections, at most `ACCEPTS`, while there is a place, as there is where each that is
-    /// held has an open session of its own.
+    /// Accepts new connections, at most `ACCEPTS`, while there is room. There always is if each
+    /// held connection has an open session of its own.
     fn accept_all<W: Wire, S: BuildHasher>(
         &mut self,
         host: &mut Host<S, A>,
@@ -193,7 +193,7 @@ impl<A: Allocator + Copy> Loop<A> {
         arrivals
     }
 
-    /// Visits each connection in a part of a turn.
+    /// Carries out one part of a turn for each connection.
     fn visit_all<W: Wire, S: BuildHasher>(
         &mut self,
         part: Part,
@@ -223,7 +223,7 @@ impl<A: Allocator + Copy> Loop<A> {
         retain_open(&mut self.held);
     }
 
-    /// Whether the session of a connection is pending.
+    /// Whether the session of any connection is pending.
     fn is_pending<S: BuildHasher>(&self, host: &Host<S, A>) -> bool
         ensures { result ≡ any_pending host.now (links_of self.now.held) }
     {
@@ -235,14 +235,14 @@ impl<A: Allocator + Copy> Loop<A> {
         false
     }
 
-    /// How many connections are held.
+    /// The number of connections held.
     pub fn count(&self) -> usize
         ensures { result ≡ length self.now.held }
     {
         self.held.len()
     }
 
-    /// How many connections are held whose session is pending.
+    /// The number of connections held whose session is pending.
     pub fn count_pending<S: BuildHasher>(&self, host: &Host<S, A>) -> usize
         ensures { result ≡ pending_count host.now (links_of self.now.held) }
     {
@@ -253,14 +253,14 @@ impl<A: Allocator + Copy> Loop<A> {
         count
     }
 
-    /// Accepts, reads, works, writes and shuts, in this order. Each connection is accepted from this
-    /// wire and each session opened in this host, from the first turn on.
+    /// Accepts, reads, works, writes and shuts, in this order. All connections must come from this
+    /// wire and all sessions from this host, from the first turn on.
     ///
-    /// Over a wire that reports its bytes: what was written to a connection in the turn is what its
-    /// session owes to what was read from it, but for what the session owes still; where the
-    /// connection was shut it is a prefix of that, and where the host was full a prefix of
-    /// `info string host full`. A connection is shut only for a cause of its own: a read or a write of
-    /// it failed, a feed of its session was refused for memory, or it was finished with.
+    /// Over a wire that reports its bytes, a turn writes to a connection what its session owes for
+    /// the bytes read, less what it still owes. A connection shut in the turn got a prefix of it,
+    /// and one that found the host full a prefix of `info string host full`. A connection is shut
+    /// only for its own failed read or write, for a feed of its session that ran out of memory, or
+    /// when it is finished with.
     pub fn turn<W: Wire, S: BuildHasher>(&mut self, host: &mut Host<S, A>, wire: &mut W) -> Turn
         requires fits { Fits (links_of self.old.held) (W.bound wire.old) host.old }
         ensures turn { Over W.Wire (Turns self.old.slice result.moved result.tally)

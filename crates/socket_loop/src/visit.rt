@@ -1,4 +1,4 @@
-//! What a turn does with one connection.
+//! The parts of a turn, for one connection.
 
 ghost use Rattle.std.specs.Prelude.{◌≡◌, ◌<◌, ◌≤◌, [], ◌∷◌, None, length, true, false};
 ghost use Rattle.session_slots.specs.Slots.{find};
@@ -20,11 +20,11 @@ use usi_session::CHUNK_MAX;
 /// A part of a turn that visits each connection.
 #[derive(Clone, Copy)]
 pub enum Part {
-    /// One read for each whose session wants input.
+    /// One read if the session wants input.
     Input,
-    /// One write for each with queued bytes.
+    /// One write if the session has output.
     Output,
-    /// Each that is finished with is shut.
+    /// A shut if the connection is finished with.
     End,
 }
 
@@ -50,7 +50,8 @@ fn shut_down<W: Wire, S: BuildHasher, A: Allocator + Copy>(
     held.is_shut = true;
 }
 
-/// Feeds a session what its connection gave; where allocation fails, both end.
+/// Feeds a session the bytes just read; if memory runs out, shuts the connection and closes the
+/// session.
 fn feed_from<W: Wire, S: BuildHasher, A: Allocator + Copy>(
     held: &mut Connection,
     host: &mut Host<S, A>,
@@ -69,7 +70,8 @@ fn feed_from<W: Wire, S: BuildHasher, A: Allocator + Copy>(
     shut_down(held, host, wire);
 }
 
-/// Whether a connection is to be read.
+/// Whether a connection is to be read: it is open, its reads have not ended, and its session wants
+/// input.
 fn is_to_read<S: BuildHasher, A: Allocator + Copy>(held: &Connection, host: &Host<S, A>) -> bool
     ensures test { result ≡ is_to_read host.now held.now }
     ensures wants { result ≡ true → WantsInput host.now held.now.link.id }
@@ -78,9 +80,9 @@ fn is_to_read<S: BuildHasher, A: Allocator + Copy>(held: &Connection, host: &Hos
     !held.has_ended && !held.is_shut && host.wants_input(held.link.id)
 }
 
-/// One read for a connection whose session wants input, and what it gave is fed. A read that fails, or a
-/// feed refused for memory, ends the connection and its session. True where something was read, or the
-/// reads ended, or the connection was shut.
+/// Reads once if the session wants input, and feeds it the bytes. A failed read, or a feed that
+/// runs out of memory, shuts the connection and closes the session. True if bytes came, the reads
+/// ended, or the connection was shut.
 fn read_from<W: Wire, S: BuildHasher, A: Allocator + Copy>(
     held: &mut Connection,
     host: &mut Host<S, A>,
@@ -112,9 +114,8 @@ fn read_from<W: Wire, S: BuildHasher, A: Allocator + Copy>(
     }
 }
 
-/// One write of what is queued for a connection, of which the session is passed what was taken. A
-/// write that fails ends the connection and its session. True where something was written, or the
-/// connection was shut.
+/// Writes the queued output once, and removes the bytes taken from the queue. A failed write shuts
+/// the connection and closes the session. True if a byte was taken or the connection was shut.
 fn write_to<W: Wire, S: BuildHasher, A: Allocator + Copy>(
     held: &mut Connection,
     host: &mut Host<S, A>,
@@ -144,8 +145,8 @@ fn write_to<W: Wire, S: BuildHasher, A: Allocator + Copy>(
     }
 }
 
-/// Whether a connection is to be shut: the host no longer has its session; or the session is over, or
-/// the reads have ended, and nothing is pending or queued.
+/// Whether a connection is finished with: the host no longer has its session; or the session is
+/// over or the reads have ended, and nothing is pending or queued.
 fn is_finished<S: BuildHasher, A: Allocator + Copy>(held: &Connection, host: &Host<S, A>) -> bool
     ensures { result ≡ is_finished host.now held.now }
 {
@@ -154,7 +155,7 @@ fn is_finished<S: BuildHasher, A: Allocator + Copy>(held: &Connection, host: &Ho
     !now.is_open | (has_ended & !now.has_output & !now.is_pending)
 }
 
-/// Shuts a connection that is finished with, and closes its session. True where it was shut.
+/// Shuts a connection that is finished with, and closes its session. True if it did.
 fn close_if_finished<W: Wire, S: BuildHasher, A: Allocator + Copy>(
     held: &mut Connection,
     host: &mut Host<S, A>,
@@ -175,7 +176,7 @@ fn close_if_finished<W: Wire, S: BuildHasher, A: Allocator + Copy>(
     true
 }
 
-/// What a part of a turn does with one connection. True where something moved.
+/// Carries out one part of a turn for one connection. True if something moved.
 pub fn visit<W: Wire, S: BuildHasher, A: Allocator + Copy>(
     part: Part,
     held: &mut Connection,
