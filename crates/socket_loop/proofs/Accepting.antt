@@ -1,4 +1,4 @@
--- New connections.
+-- New connections, and what their accepts keep.
 use Rattle.std.proofs.Common.{◌≡◌, ◌≢◌, ◌⊎◌, ℕ, zero, suc, ◌+◌, ◌<◌, ◌≤◌, Bool, true, false, List, [], ◌∷◌, ◌++◌, Option, Some, None, Result, Ok, Err, map, drop, refl, sym, ap, ◌∙◌, subst, arith, take-append-drop, inl, inr, length, append-nil, length-append}
 use Rattle.std.specs.Prelude.{insert, ◌||◌}
 use Rattle.std.proofs.lemmas.Bool.{cases_eq}
@@ -41,7 +41,7 @@ written_prefix : (r : Result ℕ WireFault) (bytes : List ℕ) → IsPrefixOf (b
 written_prefix (Ok n) bytes = (drop n bytes, take-append-drop n bytes)
 written_prefix (Err e) bytes = (bytes, refl)
 
--- a text was written, as far as it went, and the connection shut
+-- a text was written, or a prefix of it, and the connection was shut
 pub away : (a b c : Report) (bound number : ℕ) (r : Result ℕ WireFault) (bytes text : List ℕ) → bytes ≡ text → Writes a b number r bytes → Shuts bound b c number → IsShutAfterPrefix bound text a c number
 away a b c bound number r bytes text e w s = record {
   unread = Keeps-trans _ _ _ w.unread s.unread;
@@ -55,7 +55,7 @@ away a b c bound number r bytes text e w s = record {
   others = λ other differs. kept_then a b c other (w.others other differs) (s.others other differs);
 }
 
--- it was shut without a word
+-- the connection was shut without a word
 pub away_mute : (a b : Report) (bound number : ℕ) (text : List ℕ) → Shuts bound a b number → IsShutAfterPrefix bound text a b number
 away_mute a b bound number text s = record {
   unread = s.unread;
@@ -72,7 +72,7 @@ away_mute a b bound number text s = record {
 away_move : (a b : Report) (bound number : ℕ) (text : List ℕ) → IsShutAfterPrefix bound text a b number → AllMove a b
 away_move a b bound number text w = away_moves a b number [] w.bytes w.only_rises w.failed (Consumes-none _ _ w.unread) (Appends-none _ _ w.given) w.appended w.others
 
--- ---- nothing new is held
+-- ---- no connection is added
 
 fits_more : (ls : List Link) (from to : ℕ) (h i : HostState) → from ≤ to → h.slots.next ≤ i.slots.next → Fits ls from h → Fits ls to i
 fits_more ls from to h i r n f = λ l m.
@@ -128,7 +128,7 @@ away_each a b c from number to n o k least most w =
       | inr apart ↦ inl (kept_then a b c n (k n) (w.others n apart))
     ]
 
--- each of these has another number
+-- no link has the number
 pub apart_each : (ls : List Link) (n : ℕ) → ((l : Link) → IsAmong ls l → l.number ≢ n) → IsNotAmong ls n
 apart_each [] n f = tt
 apart_each (x ∷ xs) n f = (f x (inl refl), apart_each xs n (λ l m. f l (inr m)))
@@ -138,7 +138,7 @@ each_apart [] n l p m = absurd m
 each_apart (x ∷ xs) n l p (inl e) = λ same. p.0 (ap (λ (k : Link). k.number) (sym e) ∙ same)
 each_apart (x ∷ xs) n l p (inr m) = each_apart xs n l p.1 m
 
--- its session was not opened
+-- the `Open` was refused: no session was opened
 pub admits_away : (ls : List Link) (a b : Report) (h i : HostState) (number to : ℕ) (o : HostFault) → IsShutAfterPrefix to (rejection_text o) a b number → IsStep h (record { event = Open; outcome = Refused o }) i → Admits ls a h number (Refused o) to ls b i
 admits_away ls a b h i number to o w s = λ from old kept least most.
     record {
@@ -169,7 +169,7 @@ admits_away ls a b h i number to o w s = λ from old kept least most.
       };
     }
 
--- ---- one more is held
+-- ---- one connection is added
 
 among_insert : (held : List Connection) (place : ℕ) (c : Connection) (l : Link) → IsAmong (links_of (insert held place c)) l → (l ≡ c.link) ⊎ IsAmong (links_of held) l
 among_insert [] zero c l m = m
@@ -196,12 +196,12 @@ tied_insert [] (suc i) c l t u = (t, tt)
 tied_insert (x ∷ xs) zero c l t u = (t, u)
 tied_insert (x ∷ xs) (suc i) c l t u = (u.0, tied_insert xs i c l t u.1)
 
--- a link that none of these has
+-- the new link ties with each of the links
 pub fresh_tied : (ls : List Link) (k : Link) → ((l : Link) → IsAmong ls l → Ties l k) → Each (λ other. Ties other k) ls
 fresh_tied [] k f = tt
 fresh_tied (x ∷ xs) k f = (f x (inl refl), fresh_tied xs k (λ l m. f l (inr m)))
 
--- what the link is tied to
+-- one link ties with another
 pub tied_of : (ls : List Link) (k l : Link) → Each (λ other. Ties other k) ls → IsAmong ls l → Ties l k
 tied_of [] k l t m = absurd m
 tied_of (x ∷ xs) k l t (inl e) = rw e t.0
@@ -222,7 +222,7 @@ ties_apart k l n g = record {
   by_id = λ e. (let f : l.id.generation ≡ k.id.generation = ap (λ (x : SessionId). x.generation) e in absurd (omega arith));
 }
 
--- the new link, and those from before
+-- the new link fits, and all links from before
 fits_new : (held : List Connection) (place : ℕ) (c : Connection) (from to : ℕ) (h i : HostState) → from ≤ c.link.number → c.link.number < to → c.link.id.generation ≡ h.slots.next → i.slots.next ≡ h.slots.next + 1 → Fits (links_of held) from h → Fits (links_of (insert held place c)) to i
 fits_new held place c from to h i least most g n f = λ l m.
     elim (among_insert held place c l m) [
@@ -309,7 +309,7 @@ numbered_then : (f m t : ℕ) (xs ys : List Accepted) → AreNumbered f xs m →
 numbered_then f m t [] ys p q = numbered_from f m t ys p q
 numbered_then f m t (x ∷ xs) ys p q = (p.0, numbered_then (x.number + 1) m t xs ys p.1 q)
 
--- rejected, and nothing after that
+-- a connection rejected first stays as it is afterwards
 turned_then : (f m t : ℕ) (x y : List Accepted) (a b c : Report) (n : ℕ) → m ≤ t → IsRejected f m x a b n → KeepsConnection b c n → IsRejected f t (x ++ y) a c n
 turned_then f m t x y a b c n v w k =
     let u : n < m = w.most in
@@ -327,7 +327,7 @@ turned_then f m t x y a b c n v w k =
       failed = rises_then _ _ _ w.failed (stays_rise _ _ k.failed);
     }
 
--- nothing, and then rejected
+-- a connection untouched first is rejected afterwards
 then_away : (f m t : ℕ) (x y : List Accepted) (a b c : Report) (n : ℕ) → f ≤ m → KeepsConnection a b n → IsRejected m t y b c n → IsRejected f t (x ++ y) a c n
 then_away f m t x y a b c n v k w =
     let u : m ≤ n = w.least in
@@ -421,7 +421,7 @@ accepts_then ls ms ns f m t a b c h i j p q =
 pub accepts_stop : (ls ms : List Link) (f m : ℕ) (t : ℕ) (a b c : Report) (h i : HostState) → Accepts ls f a h ms m b i → m ≤ t → KeepsAll b c → Accepts ls f a h ms t c i
 accepts_stop ls ms f m t a b c h i p u k = accepts_then ls ms ms f m t a b c h i i p (accepts_none ms m t b c i u k)
 
--- a connection was accepted, and admitted
+-- one more connection was accepted and admitted
 pub accepts_more : (ls ms ns : List Link) (f m number t : ℕ) (o : Outcome) (a b c d : Report) (h i j : HostState) → Accepts ls f a h ms m b i → m ≤ number → number < t → KeepsAll b c → Admits ms c i number o t ns d j → Accepts ls f a h ns t d j
 accepts_more ls ms ns f m number t o a b c d h i j p u v k q = accepts_then ls ms ns f m t a b d h i j p (q m b k u v).accepts
 
@@ -434,7 +434,7 @@ count_of-append : (f : Outcome → ℕ) (xs ys : List Accepted) → count_of f (
 count_of-append f [] ys = omega arith
 count_of-append f (x ∷ xs) ys = let more : count_of f (xs ++ ys) ≡ count_of f xs + count_of f ys = count_of-append f xs ys in omega arith
 
--- one more, of whom this became
+-- the arrivals after one more admission
 abbrev with_one : Arrivals → Admission → Arrivals
 with_one arrivals admission = record {
   moved = true;
@@ -453,7 +453,7 @@ one_more xs x arrivals one are full unopened =
     let c : arrivals.unopened ≡ count_of unopened_of xs = are.unopened in
     record { accepted = omega arith; full = omega arith; unopened = omega arith }
 
--- so many connections were accepted, with their calls
+-- `count` connections were accepted, with their calls
 pub record AcceptsSome (count : ℕ) (arrivals : Arrivals) (links : List Link) (from : ℕ) (old : Report)
     (before : HostState) (met : List Link) (to : ℕ) (new : Report) (after : HostState)
     (old_calls new_calls : Option (List Call)) : Type 0 where
@@ -479,7 +479,7 @@ some_stop n moved ls ms f m t a b c h i old mid new answer lt p u k q g =
       asked = subst (λ (xs : List Accepted). AsksAll h ls ms xs old new) (sym (append-nil p.accepts.accepted)) (asks_stop h ls ms p.accepts.accepted old mid new answer count p.asked q g);
     }
 
--- as many were accepted as may be, or there is no place
+-- `ACCEPTS` were accepted, or there is no room
 pub some_full : (n : ℕ) (moved : Arrivals) (ls ms : List Link) (f m : ℕ) (a b : Report) (h i : HostState) (old new : Option (List Call)) → (n ≡ 16) ⊎ ¬ HaveSessions h ls → AcceptsSome n moved ls f a h ms m b i old new → AllAccepted moved ls f a h ms m b i old new
 some_full n moved ls ms f m a b h i old new e p =
     let full : (length p.accepts.accepted ≡ 16) ⊎ ¬ HaveSessions h ls = elim e [ inl most ↦ inl (p.counted ∙ most) | inr lacks ↦ inr lacks ] in
@@ -503,13 +503,13 @@ number_rises old new (Ok (Some n)) p = (let u : old ≤ n = p.0 in let v : n < n
 number_rises old new (Ok None) p = (let u : new ≡ old = p in omega arith)
 number_rises old new (Err e) p = (let u : new ≡ old = p in omega arith)
 
--- a number that is given lies above what was given before
+-- an accepted number lies above the bound from before
 pub rose : (a b number c d : ℕ) → a ≤ b → b ≤ number → number < c → d ≡ c → a < d
 rose a b number c d p q r e = omega arith
 
 pub below_then : (a b c : ℕ) → a < b → b ≤ c → a < c
 below_then a b c p q = omega arith
 
--- at most one more of both
+-- one more admission adds at most one to both counts together
 pub few_more : (full unopened n f u : ℕ) → full + unopened ≤ n → f + u ≤ 1 → (full + f) + (unopened + u) ≤ n + 1
 few_more full unopened n f u p q = omega arith

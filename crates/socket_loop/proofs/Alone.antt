@@ -1,4 +1,4 @@
--- Servings are like one another, and like a session that is served alone.
+-- Servings compared with one another, and with a session served alone.
 use Rattle.std.specs.Prelude.{not}
 use Rattle.std.proofs.Common.{◌≡◌, ◌⊎◌, ℕ, zero, suc, ◌-◌, ◌≤◌, ◌<◌, true, List, [], ◌∷◌, ◌++◌, length, drop, Option, Some, None, refl, sym, ap, ◌∙◌, append-nil, append_assoc, arith, inl, inr}
 use Rattle.std.specs.List.{before_first, position_or_len}
@@ -58,19 +58,19 @@ more_by fuel r x few next (inr short) (inr open_) =
     let none : lines r ≡ [] = lines-open r (omega arith) (omega arith) in
     record { rest = lines (r ++ x); is = ap (λ (ls : List Line). ls ++ lines (r ++ x)) (sym none) }
 
--- all lines of a stream stay its first lines
+-- the first lines of a stream stay when it goes on
 more_lines : (fuel : ℕ) (r x : List ℕ) → length r ≤ fuel → MoreLines r x
 more_lines zero [] x few = record { rest = lines x; is = ap (λ (ls : List Line). ls ++ lines x) (sym (lines-open [] refl (omega arith))) }
 more_lines zero (b ∷ r) x few = absurd (omega (arith, few))
 more_lines (suc fuel) r x few = more_by fuel r x few (λ s less. more_lines fuel s x less) (cases_lt LINE_MAX (position_or_len is_line_feed r)) (cases_lt (position_or_len is_line_feed r) (length r))
 
--- replies to further lines come after those to the first ones
+-- the replies to more lines follow the replies to the first
 replies_then : (s : State) (xs ys : List Line) → replies_from s (xs ++ ys) ≡ replies_from s xs ++ replies_from (state_from s xs) ys
 unfolding replies_from state_from
 replies_then s [] ys = refl
 replies_then s (x ∷ xs) ys = ap (λ (bs : List ℕ). (answer_line s x).bytes ++ bs) (replies_then (answer_line s x).state xs ys) ∙ sym (append_assoc (answer_line s x).bytes (replies_from (answer_line s x).state xs) (replies_from (state_from (answer_line s x).state xs) ys))
 
--- what comes after the end of a session is not answered
+-- input after the end of a session is not answered
 over_replies : (setup : Setup) (r x : List ℕ) → is_over_after_under setup r ≡ true → replies_under setup (r ++ x) ≡ replies_under setup r
 over_replies setup r x over =
     let m : MoreLines r x = more_lines (length r) r x (omega arith) in

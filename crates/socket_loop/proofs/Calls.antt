@@ -1,4 +1,4 @@
--- The calls of a turn, one after the other.
+-- The calls of a turn, one by one.
 use Rattle.std.proofs.Common.{◌≡◌, ◌⊎◌, ℕ, zero, suc, ◌+◌, ◌<◌, Bool, true, false, cond, List, [], ◌∷◌, ◌++◌, length, take, get_or, set, Option, Some, None, Result, Ok, refl, sym, ap, ◌∙◌, arith, append_assoc, append-nil, inl, inr, Err}
 use Rattle.std.proofs.lemmas.List.{length-map}
 use Rattle.std.proofs.Math.Seq.{take-append_seam}
@@ -27,7 +27,7 @@ use Rattle.socket_loop.specs.Visits.{IsClosing}
 
 -- ---- what was asked
 
--- it is held with its session, and nothing was asked for
+-- the new connection is held with its session, without a call
 pub asks_held : (met : List Link) (l : Link) (a b : Option (List Call)) → IsAmong met l → b ≡ a → AsksAdmission met l.number (Opened l.id) a b
 asks_held met l a b among e = record { calls = []; admitted = ((l, (among, (refl, refl))), refl); asked = rw e (asks_none a) }
 
@@ -36,11 +36,11 @@ asks_held met l a b among e = record { calls = []; admitted = ((l, (among, (refl
 shuts_one : (old new : Connection) → old.is_shut ≡ false → new.is_shut ≡ true → shuts_of old new ≡ Shut old.link.number ∷ []
 shuts_one old new e f = rw (e, f) refl
 
--- it was shut
+-- the connection was shut, with one call
 pub asks_shut : (a b : Option (List Call)) (old new : Connection) → old.is_shut ≡ false → new.is_shut ≡ true → Asks a b (Shut old.link.number ∷ []) → Asks a b (shuts_of old new)
 asks_shut a b old new e f p = rw (shuts_one old new e f) p
 
--- a call that is due, and what followed it
+-- a due call, and the calls after it
 pub asks_due : (a b c : Option (List Call)) (due : Bool) (first : Call) (more : List Call) → due ≡ true → Asks a b (first ∷ []) → Asks b c more → Asks a c (cond due (first ∷ more) [])
 asks_due a b c due first more e p q = rw e (asks_then a b c (first ∷ []) more p q)
 
@@ -58,7 +58,7 @@ visits_two kind id a b c event o k l e s t = record { steps = record { event = e
 
 -- ---- what a visit leaves
 
--- where it was shut in the visit, its session is open no more
+-- a connection shut in the visit has its session closed
 abbrev pub ClosesShut : HostState → Connection → Connection → Type 0
 ClosesShut after x y = y.is_shut ≡ true → (x.is_shut ≡ true) ⊎ (find after.slots x.link.id ≡ None)
 
@@ -74,7 +74,7 @@ called_shut : (x y : Connection) (now : Bool) → y.is_shut ≡ now → IsCalled
 called_shut x y true e m = e
 called_shut x y false e m = (let none : IsCalled [] (Shut x.link.number) = rw e at m in absurd none)
 
--- a call that is no shut, and then perhaps a shut
+-- a call other than a shut, then perhaps a shut
 visit_first : (after : HostState) (first : Call) (x y : Connection) → (Shut x.link.number ≡ first → ⊥) → y.link ≡ x.link → KeepsMade x y → ClosesShut after x y → (y.has_ended ≡ true → (x.has_ended ≡ true) ⊎ IsCalled (first ∷ shuts_of x y) (Read x.link.number 4096)) → IsVisit after (first ∷ shuts_of x y) x y
 visit_first after first x y other link made closed ended = record {
   link = link;
@@ -142,11 +142,11 @@ asks_next n due kind h i j xs ys y d a b c lt p w v q =
       asked = asks_then a b c p.calls (due i (get_or ys n d) y) p.asked q;
     })
 
--- nothing of what was there before is left behind them
+-- `take` of the visited part of a list drops the rest
 pub all_taken : (m : ℕ) (ys rest : List Connection) → m ≡ length ys → take m (ys ++ rest) ≡ ys
 all_taken m ys rest e = rw e (take-append_seam ys rest)
 
--- each was visited, and they are as many as before
+-- all connections were visited, and none was added
 pub asks_end : (n m : ℕ) (due : HostState → Connection → Connection → List Call) (kind : Event → Type 0) (h i : HostState) (xs ys rest : List Connection) (a b : Option (List Call)) → n ≡ length ys → m ≡ length ys → links_of ys ≡ links_of xs → AsksTo n due kind h xs ys a b i → AsksTo (length xs) due kind h xs (take m (ys ++ rest)) a b i
 asks_end n m due kind h i xs ys rest a b e f same p =
     let as_many : length ys ≡ length xs = sym (length-map ys (λ (c : Connection). c.link)) ∙ (ap length same ∙ length-map xs (λ (c : Connection). c.link)) in
@@ -154,7 +154,7 @@ asks_end n m due kind h i xs ys rest a b e f same p =
 
 -- ---- new connections
 
--- these were accepted
+-- these connections were accepted, with their calls
 pub record AsksAccepts (met : List Link) (items : List Accepted) (old new : Option (List Call))
     : Type 0 where
   pub calls : List Call
@@ -169,7 +169,7 @@ accepted_next met (x ∷ items) calls item more p m =
     let is : calls ≡ Accept (Ok (Some x.number)) ∷ (first ++ rest) = p.1.1.0 in
     (first, (rest ++ (Accept (Ok (Some item.number)) ∷ more), (rw is (ap (λ (l : List Call). Accept (Ok (Some x.number)) ∷ l) (append_assoc first rest (Accept (Ok (Some item.number)) ∷ more))), (p.1.1.1.0, accepted_next met items rest item more p.1.1.1.1 m))))
 
--- what was so with fewer links is so with more
+-- an admission stays true with more links
 admitted_on : (ms ns : List Link) (item : Accepted) (o : Outcome) (calls : List Call) → ((l : Link) → IsAmong ms l → IsAmong ns l) → IsAdmittedAs ms item o calls → IsAdmittedAs ns item o calls
 admitted_on ms ns item (Opened id) calls stay h = ((h.0.0, (stay h.0.0 h.0.1.0, h.0.1.1)), h.1)
 admitted_on ms ns item (Refused Full) calls stay p = p
@@ -198,8 +198,7 @@ asks_accept met items item a b c d p q r = record {
   asked = asks_then a b d p.calls (Accept (Ok (Some item.number)) ∷ r.calls) p.asked (asks_then b c d (Accept (Ok (Some item.number)) ∷ []) r.calls q r.asked);
 }
 
--- an accept gave nobody
--- an accept gave nobody
+-- the accept gave nobody
 abbrev pub GivesNobody : Result (Option ℕ) WireFault → Type 0
 GivesNobody (Ok (Some number)) = ⊥
 GivesNobody (Ok None) = Unit {0}
@@ -224,7 +223,7 @@ asks_full host ls met items a b e p =
     let ends_ : EndsAccepting items [] ⊎ (([] ≡ []) × ¬ HaveSessions host ls) = elim e [ inl most ↦ inl (inl (most, refl)) | inr lacks ↦ inr (refl, lacks) ] in
     record { first = p.calls; last = []; accepted = p.accepted; ends = ends_; asked = rw (append-nil p.calls) p.asked }
 
--- an allocation failed for a session
+-- memory ran out for a session
 pub refused_admitted : (met : List Link) (number : ℕ) (fault : HostFault) → (fault ≡ Full → ⊥) → IsAdmittedAs met (record { number = number; outcome = Refused fault }) (Refused fault) (Shut number ∷ [])
 refused_admitted met number Full f = absurd (f refl)
 refused_admitted met number OutOfMemory f = refl

@@ -1,4 +1,4 @@
--- One connection after the other, with all that is kept of them.
+-- Visits of the connections one by one.
 use Rattle.std.proofs.Common.{◌≡◌, ◌⊎◌, ℕ, ◌+◌, ◌<◌, ◌≤◌, Bool, true, false, List, [], ◌∷◌, ◌++◌, length, take, get_or, set, refl, ◌∙◌, arith, inl}
 use Rattle.std.specs.Prelude.{◌||◌}
 use Rattle.host_core.specs.Steps.{HostState}
@@ -17,7 +17,7 @@ use Rattle.socket_loop.proofs.Stirs.{made_same, all_made_same, all_made_then, al
 use Rattle.socket_loop.proofs.Quiet.{quiet_next, either_false}
 use Rattle.socket_loop.proofs.Calls.{visits_nothing, all_taken, asks_start, asks_next, asks_end}
 
--- nothing was done with it
+-- the connection was left alone
 pub visit_none : (due : HostState → Connection → Connection → List Call) (kind : Event → Type 0) (s : Scene) (x : Connection) → due s.host x x ≡ [] → VisitsOne due kind false x x s s
 visit_none due kind s x none = record {
   visit = record {
@@ -47,7 +47,7 @@ visits_start due kind s = record {
   faults = omega arith;
 }
 
--- one more was visited
+-- one more connection was visited
 pub visits_next : (n : ℕ) (due : HostState → Connection → Connection → List Call) (kind : Event → Type 0) (moved has : Bool) (start mid after : Scene) (y d : Connection) → n < length mid.held → VisitsTo n due kind moved start mid → AllMove start.report mid.report → AllMove mid.report after.report
     → VisitsOne due kind has (get_or mid.held n d) y (record mid { held = get_or mid.held n d ∷ [] }) (record after { held = y ∷ [] })
     → (y.has_ended ≡ true → ((get_or mid.held n d).has_ended ≡ true) ⊎ IsEmptied (mid.report.unread (get_or mid.held n d).link.number) (after.report.unread (get_or mid.held n d).link.number))
@@ -63,7 +63,7 @@ visits_next n due kind moved has start mid after y d lt p first second v ended v
   faults = (let u : start.failed ≤ mid.failed = p.faults in let w : mid.failed ≤ after.failed = v.visit.faults in omega arith);
 }
 
--- each was visited
+-- all connections were visited
 pub visits_end : (n m : ℕ) (due : HostState → Connection → Connection → List Call) (kind : Event → Type 0) (moved : Bool) (start last : Scene) (rest : List Connection) → n ≡ length last.held → m ≡ length last.held → VisitsTo n due kind moved start last → VisitsTo (length start.held) due kind moved start (record last { held = take m (last.held ++ rest) })
 visits_end n m due kind moved start last rest e f p =
     let taken : take m (last.held ++ rest) ≡ last.held = all_taken m last.held rest f in

@@ -1,4 +1,4 @@
--- How a session ends that is closed in a run of a host.
+-- How a session ends that a run of a host closes.
 use Rattle.std.proofs.Common.{◌≡◌, ◌⊎◌, ℕ, Bool, true, false, List, [], ◌∷◌, ◌++◌, length, Option, Some, None, refl, sym, ap, ◌∙◌, arith, append-nil, inl, inr}
 use Rattle.std.specs.Prelude.{IsSome, ◌||◌, ◌&&◌, ◌==◌, not}
 use Rattle.std.proofs.lemmas.Bool.{and_parts, eqb-true, or_cases, or_left, or_right, both_ways}
@@ -33,7 +33,7 @@ pub not_none : (o : Option SessionView) → IsSome o → o ≡ None → ⊥
 not_none None s e = absurd (cc)
 not_none (Some t) s e = absurd (cc)
 
--- the session that is there
+-- the session found
 pub record Found (o : Option SessionView) : Type 0 where
   pub session : SessionView
   pub is : o ≡ Some session
@@ -95,7 +95,7 @@ opens_now old new id (Work at budget) o p e = absurd (cc)
 opens_now old new id (Take at n) o p e = absurd (cc)
 opens_now old new id (Close at) o p e = absurd (cc)
 
--- it was opened, and not closed
+-- a session opened and not closed is open
 pub opened_stays : (h i : HostState) (id : SessionId) (steps : List Step) → IsRun h steps i → some_step (closes id) steps ≡ false → is_opened id steps ≡ true → IsSome (find i.slots id)
 unfolding IsRun
 opened_stays h i id [] r e o = absurd (cc)
@@ -106,7 +106,7 @@ opened_stays h i id (step ∷ rest) r e o =
       | inr later ↦ opened_stays r.0 i id rest r.2 n.second later
     ]
 
--- what was opened in a first part, in which it was not closed, was opened before it was closed
+-- a session opened in a first part, and not closed there, was opened before its close
 pub opened_before : (id : SessionId) (p q x y : List Step) (c : Step) → p ++ q ≡ x ++ (c ∷ y) → some_step (closes id) p ≡ false → closes id c.event c.outcome ≡ true → is_opened id p ≡ true → is_opened id x ≡ true
 opened_before id [] q x y c e f g o = absurd (cc)
 opened_before id (s ∷ p) q [] y c e f g o =
@@ -124,7 +124,7 @@ opened_before id (s ∷ p) q (t ∷ x) y c e f g o =
 
 -- ---- what was finished
 
--- the session of a connection that was finished with
+-- the session of a connection that is finished with
 record Settled (has_ended : Bool) (m : SessionView) : Type 0 where
   pub ended : (has_ended ≡ true) ⊎ (m.state.is_over ≡ true)
   pub none : m.queued ≡ []
@@ -148,19 +148,19 @@ settled_at has_ended m e =
       settled = is_not (is_pending m) p.1;
     }
 
--- after it was closed nothing happens of it
+-- after its close a session does nothing
 closing_end : (moment c : HostState) (id : SessionId) (o : Outcome) (later : List Step) → IsSome (find moment.slots id) → IsRun moment (record { event = Close id; outcome = o } ∷ later) c → IsOut id later c
 unfolding IsRun
 closing_end moment c id o later s r =
     let g : IsGone r.0 id = closed moment r.0 id o r.1.stepped (r.1.below id s) in
     out_gone r.0 c id later r.2 g
 
--- what was read ends the session, and nothing is owed to whatever else may be read
+-- the bytes read end the session, and no further input is answered
 pub record EndsBy (owes : List ℕ → List ℕ) (ends : List ℕ → Bool) (read written : List ℕ) : Type 0 where
   pub over : ends read ≡ true
   pub no_more : (x : List ℕ) → owes (read ++ x) ≡ written
 
--- all that was owed to what was read was written; and the reads had ended, or it ends the session
+-- all that was owed was written; the reads had ended, or the input ends the session
 pub record Ending (owes : List ℕ → List ℕ) (ends : List ℕ → Bool) (id : SessionId) (read written : List ℕ) (steps : List Step) (has_ended : Bool) : Type 0 where
   pub all : written ++ taken id steps ≡ owes (read ++ own id steps)
   pub why : (has_ended ≡ true) ⊎ EndsBy owes ends (read ++ own id steps) (written ++ taken id steps)

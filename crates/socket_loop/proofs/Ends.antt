@@ -24,7 +24,7 @@ once_turns slice (suc n) a b p o = rw p.2.wait.held (p.2.turn.once (once_turns s
 finished_last : {answer : Result (Unit {0}) WireFault} (slice : ℕ) (b m c : Scene) (turn : IsTurnTo slice b m) → IsWait turn.moved answer m c → AreOnce (links_of b.held) → NoneFinished c.host c.held
 finished_last slice b m c turn wait o = rw (wait.held, wait.host) (turn.finished o)
 
--- one of these is not finished with
+-- the connection of the link is not finished with
 record Unfinished (host : HostState) (l : Link) : Type 0 where
   pub has_ended : Bool
   pub unfinished : is_finished_with has_ended (find host.slots l.id) ≡ false
@@ -41,7 +41,7 @@ finished_true has_ended false pending empty e f g = absurd (cc)
 finished_true has_ended true true empty e f g = absurd (cc)
 finished_true has_ended true false false e f g = absurd (cc)
 
--- over, with nothing pending and nothing queued, it is finished with
+-- a session that is over, with nothing pending or queued, is finished with
 finished_by : (has_ended : Bool) (ends : List ℕ → Bool) (read : List ℕ) (now : Option SessionView) → OverFrom ends read now → ends read ≡ true → pending_of now ≡ false → queued_of now ≡ [] → is_finished_with has_ended now ≡ true
 finished_by has_ended ends read None o e p q = refl
 finished_by has_ended ends read (Some t) o e p q =

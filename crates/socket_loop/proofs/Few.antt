@@ -1,4 +1,4 @@
--- No more connections are held than there are open sessions, where each has one of its own.
+-- If each connection has an open session of its own, there are no more connections than open sessions.
 use Rattle.std.proofs.Common.{◌≡◌, ◌≢◌, ◌⊎◌, ℕ, zero, suc, ◌+◌, ◌<◌, ◌≤◌, cond, List, [], ◌∷◌, Option, Some, None, set, length, refl, sym, ap, ◌∙◌, arith, inl, inr}
 use Rattle.std.specs.Prelude.{count_by, is_some, slice_index_or, IsSome}
 use Rattle.std.proofs.lemmas.List.{get_or-set_other}
@@ -19,7 +19,7 @@ use Rattle.socket_loop.specs.Accepting.{Accepts, IsNew}
 abbrev open_in : Option (OpenSession SessionView) → ℕ
 open_in slot = cond (is_some slot) 1 0
 
--- an open slot less
+-- emptying an open slot lowers the count by one
 count-emptied : (xs : List (Option (OpenSession SessionView))) (k : ℕ) (o : OpenSession SessionView) → slice_index_or xs k None ≡ Some o → count_by is_some (set xs k None) + 1 ≡ count_by is_some xs
 count-emptied [] k o e = absurd (cc)
 count-emptied (x ∷ xs) zero o e =
@@ -30,7 +30,7 @@ count-emptied (x ∷ xs) (suc k) o e = omega (arith, count-emptied xs k o e, sum
 at_some : (s : OpenSessions SessionView) (id : SessionId) → IsSome (find s id) → IsAt id.generation (slice_index_or s.slots id.slot None)
 at_some s id some = (let f : Found (find s id) = found (find s id) some in found_at id.generation (slice_index_or s.slots id.slot None) f.session f.is)
 
--- two that are open in one slot are one
+-- two open ids with one slot are equal
 one_slot : (s : OpenSessions SessionView) (a b : SessionId) → IsSome (find s a) → IsSome (find s b) → a.slot ≡ b.slot → a ≡ b
 one_slot s a b some_a some_b same =
     let x = at_some s a some_a in
@@ -45,7 +45,7 @@ strange_of [] id l p m = absurd m
 strange_of (x ∷ xs) id l p (inl e) = λ same. p.0 (ap (λ (k : Link). k.id) (sym e) ∙ same)
 strange_of (x ∷ xs) id l p (inr m) = strange_of xs id l p.1 m
 
--- each with an open session of its own
+-- links with open sessions of their own are no more than the open sessions
 few : (ls : List Link) (s : OpenSessions SessionView) → AreOnce ls → ((l : Link) → IsAmong ls l → IsSome (find s l.id)) → length ls ≤ count s
 few [] s once open_all = omega arith
 few (x ∷ ls) s once open_all =
@@ -58,12 +58,12 @@ few (x ∷ ls) s once open_all =
     let fewer : count less + 1 ≡ count s = count-emptied s.slots x.id.slot here.opened here.slot_is in
     omega arith
 
--- accepting keeps open what was open
+-- accepting leaves open sessions open
 open_then : (ls ms : List Link) (f t : ℕ) (a b : Report) (h i : HostState) (p : Accepts ls f a h ms t b i) → HaveSessions h ls → (l : Link) → IsAmong ls l ⊎ IsNew f t p.accepted h.slots.next a b p.host.steps l → IsSome (find i.slots l.id)
 open_then ls ms f t a b h i p have l (inl old) = stays_open h i l.id p.host.steps p.host.chain (closes-admissions l.id p.host.steps p.host.kinds) (have.open_all l old)
 open_then ls ms f t a b h i p have l (inr new) = opened_stays h i l.id p.host.steps p.host.chain (closes-admissions l.id p.host.steps p.host.kinds) new.opened
 
--- no more are met than there are sessions
+-- after the accepts there are no more connections than sessions
 pub few_met : (ls ms : List Link) (f t most : ℕ) (a b : Report) (h i : HostState) → Fits ls f h → Accepts ls f a h ms t b i → count i.slots ≤ most → most < length ms → ¬ HaveSessions h ls
 few_met ls ms f t most a b h i fit p under over = λ have.
     let met : length ms ≤ count i.slots = few ms i.slots (p.once fit have.once) (λ l m. open_then ls ms f t a b h i p have l (p.are l m)) in

@@ -1,4 +1,4 @@
--- Connections that are left, as none is finished with.
+-- After a turn no connection held is finished with.
 use Rattle.std.proofs.Common.{◌≡◌, ◌≢◌, ◌⊎◌, ℕ, zero, suc, ◌+◌, ◌<◌, Bool, true, false, List, [], ◌∷◌, ◌++◌, length, take, get_or, set, refl, sym, ap, ◌∙◌, arith, inl, inr}
 use Rattle.std.specs.Prelude.{filter, insert, not}
 use Rattle.std.proofs.lemmas.Bool.{both_ways, cond_both}
@@ -19,7 +19,7 @@ use Rattle.socket_loop.specs.Parts.{is_finished_with, is_finished}
 use Rattle.socket_loop.specs.Calls.{IsOf, Visits}
 use Rattle.socket_loop.specs.Visits.{IsLeft}
 
--- none of these connections is finished with: each session is open, and something of it is pending or queued, or it is not over and the reads have not ended
+-- no connection is finished with
 abbrev pub NoneFinished : HostState → List Connection → Type 0
 NoneFinished host held = Each (λ connection. is_finished host connection ≡ false) held
 
@@ -32,7 +32,7 @@ not_named id other (Work at budget) o p f = apart_ids at other (λ e. f (sym p �
 not_named id other (Take at n) o p f = apart_ids at other (λ e. f (sym p ∙ e))
 not_named id other (Close at) o p f = apart_ids at other (λ e. f (sym p ∙ e))
 
--- another session is what it was
+-- steps of one session leave another as it was
 pub finds_other : (h i : HostState) (id other : SessionId) (steps : List Step) → Each (λ step. IsOf id step.event) steps → IsRun h steps i → (id ≡ other → ⊥) → find i.slots other ≡ find h.slots other
 unfolding IsRun
 finds_other h i id other [] p r f = ap (λ (x : HostState). find x.slots other) r
@@ -62,7 +62,7 @@ left_next kind held xs i d y h j lt same so_far v here once =
     let one : i + 1 ≡ suc i = omega arith in
     rw one (left_at kind xs i d y h j lt (rw same once) (so_far once) v here)
 
--- all were
+-- all connections were visited
 pub left_end : (n m : ℕ) (held xs rest : List Connection) (h : HostState) → n ≡ length xs → m ≡ length xs → (AreOnce (links_of held) → Each (IsLeft h) (take n xs)) → AreOnce (links_of held) → Each (IsLeft h) (take m (xs ++ rest))
 left_end n m held xs rest h e f so_far once =
     let whole : Each (IsLeft h) (take (length xs) xs) = rw e at (so_far once) in
@@ -72,7 +72,7 @@ left_end n m held xs rest h e f so_far once =
     take_all [] = refl
     take_all (y ∷ ys) = ap (λ (zs : List Connection). y ∷ zs) (take_all ys)
 
--- those that were shut are removed
+-- the shut connections are removed
 none_at : (b : Bool) (h : HostState) (x : Connection) (xs : List Connection) → x.is_shut ≡ b → Each (IsLeft h) (x ∷ xs) → NoneFinished h (filter (λ y. not y.is_shut) xs) → NoneFinished h (filter (λ y. not y.is_shut) (x ∷ xs))
 none_at true h x xs e left more = rw e more
 none_at false h x xs e left more = rw e (elim left.0 [ inl shut ↦ absurd (both_ways x.is_shut e shut) | inr open_ ↦ (open_, more) ])
@@ -101,7 +101,7 @@ strange_insert [] (suc i) c id n s = (n, s)
 strange_insert (x ∷ xs) zero c id n s = (n, s)
 strange_insert (x ∷ xs) (suc i) c id n s = (s.0, strange_insert xs i c id n s.1)
 
--- a new id is inserted
+-- ids stay distinct when a new one is inserted
 pub once_insert : (xs : List Connection) (place : ℕ) (c : Connection) → ((l : Link) → IsAmong (links_of xs) l → l.id ≢ c.link.id) → AreOnce (links_of xs) → AreOnce (links_of (insert xs place c))
 once_insert [] zero c f o = (tt, tt)
 once_insert [] (suc i) c f o = (tt, tt)

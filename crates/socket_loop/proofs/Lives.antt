@@ -1,4 +1,4 @@
--- What was read from one connection and written to it, part after part.
+-- What one connection was served, over consecutive parts.
 use Rattle.std.proofs.Common.{◌≡◌, ◌⊎◌, ℕ, ◌<◌, Bool, List, [], ◌∷◌, ◌++◌, Option, Some, None, refl, sym, ap, ◌∙◌, subst, append-nil, inl, inr, ◌≢◌}
 use Rattle.std.specs.Prelude.{IsSome}
 use Rattle.std.specs.Io.KnownBytes.{Keeps, Appends, Consumes}
@@ -45,7 +45,7 @@ pub then_whole : (h m : HostState) (id : SessionId) (steps : List Step) (lost mo
 then_whole h m id steps lost more None e lt r p q some = some_none (find m.slots id) (lost ++ more) (gone h m id steps e lt r).none some
 then_whole h m id steps lost more (Some t) e lt r p q some = rw (p refl, q some) refl
 
--- a connection was served, and then its session stored and gave bytes
+-- a connection was served, and then more of it
 abbrev pub served_then : (owes : List ℕ → List ℕ) (a b c : Report) (h m : HostState) (n : ℕ) (id : SessionId) (steps : List Step) (lost : List ℕ) → id.generation < h.slots.next → IsRun h steps m → Served owes a b n (find h.slots id)
     → Consumes (b.unread n) (c.unread n) (own id steps ++ lost) → Appends (b.given n) (c.given n) (own id steps ++ lost) → Appends (b.written n) (c.written n) (taken id steps) → (IsSome (find m.slots id) → lost ≡ []) → Served owes a c n (find m.slots id)
 served_then owes a b c h m n id steps lost lt r s u g w whole = record {
@@ -59,12 +59,12 @@ served_then owes a b c h m n id steps lost lt r s u g w whole = record {
   whole = then_whole h m id steps s.lost lost (find h.slots id) refl lt r s.whole whole;
 }
 
--- it was met
+-- the connection was met in the next part
 abbrev pub served_on : (owes : List ℕ → List ℕ) (marks : List Connection) (bound : ℕ) (a b c : Report) (h m : HostState) (steps : List Step) (l : Link) → l.id.generation < h.slots.next → IsRun h steps m → Served owes a b l.number (find h.slots l.id) → Transferred marks bound b h steps c m l → Served owes a c l.number (find m.slots l.id)
 served_on owes marks bound a b c h m steps l lt r s k =
     served_then owes a b c h m l.number l.id steps k.lost lt r s k.consumed k.given k.appended (λ some. not_lost m l.id k.lost k.whole some)
 
--- it was not met
+-- the connection was not met in the next part
 abbrev pub served_aside : (owes : List ℕ → List ℕ) (a b c : Report) (h m : HostState) (n : ℕ) (id : SessionId) (steps : List Step) → id.generation < h.slots.next → IsRun h steps m → Served owes a b n (find h.slots id) → LeavesUntouched id steps → KeepsConnection b c n → Served owes a c n (find m.slots id)
 served_aside owes a b c h m n id steps lt r s alone k =
     served_then owes a b c h m n id steps [] lt r s (rw alone.stored (Consumes-none _ _ k.unread)) (rw alone.stored (Appends-none _ _ k.given)) (rw alone.passed (Appends-none _ _ k.written)) (λ some. refl)

@@ -1,4 +1,4 @@
--- What a turn does to a session that is pending.
+-- The effect of a turn on the load of a pending session.
 use Rattle.std.proofs.Common.{◌≡◌, ◌⊎◌, ℕ, ◌+◌, ◌<◌, ◌≤◌, Bool, true, false, List, [], ◌∷◌, ◌++◌, length, Option, Some, None, refl, sym, ap, ◌∙◌, arith, inl, inr}
 use Rattle.std.specs.Prelude.{is_some, nat_lt, ◌||◌, ◌&&◌, not}
 use Rattle.std.proofs.lemmas.Bool.{or_left, or_right, both_ways}
@@ -41,7 +41,7 @@ is_feed (Work id budget) = false
 is_feed (Take id n) = false
 is_feed (Close id) = false
 
--- it is closed, or as pending as before, with the same load
+-- the session is closed, or as pending as before with the same load
 abbrev KeepsLoad : SessionView → Option SessionView → Type 0
 KeepsLoad s None = Unit {0}
 KeepsLoad s (Some t) = (is_pending t ≡ is_pending s) × (load t ≡ load s)
@@ -122,7 +122,7 @@ load_step old new id (Work at budget) o s p f w g = absurd (cc)
 load_step old new id (Take at n) o s p f w g = on_load (Takes n) old new at id o s (find old.slots at) (is_same_id at id) refl f refl p.0 (λ t went. takes_load n s o t went)
 load_step old new id (Close at) o s p f w g = close_load old new at id o s (find old.slots at) (is_same_id at id) refl f p
 
--- steps of these kinds, one after the other
+-- steps that are no work, one after the other
 mutual_load : (kind : Event → Type 0) (mid i : HostState) (id : SessionId) (rest : List Step) (s : SessionView) (found_ : Option SessionView) → find mid.slots id ≡ found_ → id.generation < mid.slots.next → IsRun mid rest i → KeepsLoad s found_
     → ((t : SessionView) → find mid.slots id ≡ Some t → is_pending t ≡ is_pending s → KeepsLoad t (find i.slots id)) → KeepsLoad s (find i.slots id)
 mutual_load kind mid i id rest s None e lt r p more = keeps_none s (find i.slots id) (gone mid i id rest e lt r).none
@@ -139,12 +139,12 @@ load_run kind h i id (step ∷ rest) s w g all lt f r =
 
 -- ---- the round
 
--- closed, or with nothing pending, or with so many steps less to make
+-- the session is closed, or has nothing pending, or `budget` steps less to do
 abbrev pub Nearer : ℕ → SessionView → Option SessionView → Type 0
 Nearer budget s None = Unit {0}
 Nearer budget s (Some t) = (is_pending t ≡ false) ⊎ (budget + load t ≤ load s)
 
--- no load more, and nothing pending if nothing was
+-- the load did not grow, and nothing became pending
 abbrev NoMore : SessionView → Option SessionView → Type 0
 NoMore s None = Unit {0}
 NoMore s (Some t) = (load t ≤ load s) × (is_pending s ≡ false → is_pending t ≡ false)
@@ -156,7 +156,7 @@ no_more_then : (s t : SessionView) (found_ : Option SessionView) → (load t ≤
 no_more_then s t None p q = tt
 no_more_then s t (Some u) p q = (let a : load t ≤ load s = p.0 in let b : load u ≤ load t = q.0 in omega arith, λ e. q.1 (p.1 e))
 
--- what the work of a session does: it is refused, or made
+-- a `Work` of a session is refused, or made
 record WorksOnce (budget : ℕ) (s : SessionView) (new : HostState) (id : SessionId) : Type 0 where
   pub after : SessionView
   pub steps : ℕ
@@ -282,7 +282,7 @@ nearer_kept budget s t u (Some v) e (inr less) k = (let a : load v ≡ load u = 
 nearer_none : (budget : ℕ) (s : SessionView) (found_ : Option SessionView) → found_ ≡ None → Nearer budget s found_
 nearer_none budget s found_ e = rw e tt
 
--- after the round
+-- the steps after the round keep the load
 near_late : (budget : ℕ) (end after : HostState) (id : SessionId) (late : List Step) (s t : SessionView) (found_ : Option SessionView) → load t ≡ load s → id.generation < end.slots.next → Each (λ step. IsQuietEvent step.event) late → IsRun end late after → find end.slots id ≡ found_ → Nearer budget t found_ → Nearer budget s (find after.slots id)
 near_late budget end after id late s t None e lt all r f n = nearer_none budget s (find after.slots id) (gone end after id late f lt r).none
 near_late budget end after id late s t (Some u) e lt all r f n =
@@ -301,7 +301,7 @@ near_round slice start end after id late s worked refused r (Some t) p lt all q 
       | inr near ↦ inr (near_late slice end after id late s t (find end.slots id) k.1 (omega arith) all q refl near)
     ]
 
--- a session that is pending before a turn: a work of it is refused; or after the turn it is closed, has nothing pending, or a whole slice less to do
+-- in a turn, a pending session is closed, has nothing pending, has one slice less to do, or its `Work` is refused
 pub near_turn : (slice : ℕ) (moved : Bool) (x y : Scene) (turn : IsTurn slice moved x y) (id : SessionId) (s : SessionView) → id.generation < x.host.slots.next → find x.host.slots id ≡ Some s → is_pending s ≡ true → (some_step (work_failed id) turn.host.steps ≡ true) ⊎ Nearer slice s (find y.host.slots id)
 near_turn slice moved x y turn id s lt e p =
     let early : List Step = turn.host.parts.admissions ++ turn.host.parts.inputs in

@@ -1,4 +1,4 @@
--- Connections whose reads have ended, and connections that were shut.
+-- The marks of connections: reads ended, and shut.
 use Rattle.std.proofs.Common.{◌≡◌, ◌⊎◌, ℕ, zero, suc, ◌<◌, ◌≤◌, Bool, true, false, List, [], ◌∷◌, length, get_or, set, refl, sym, ap, ◌∙◌, arith, inl, inr}
 use Rattle.std.specs.Prelude.{filter, insert, not}
 use Rattle.std.proofs.lemmas.Bool.{both_ways, cond_both}
@@ -12,7 +12,7 @@ use Rattle.transport.proofs.Reported.{emptied_move, move_emptied, raised_rises, 
 use Rattle.socket_loop.specs.Accepting.{AddsNoMark, HoldsMore}
 use Rattle.socket_loop.specs.Visits.{KeepsMarks}
 
--- the same of each number
+-- the marks of all numbers are kept
 abbrev pub KeepsAllMarks : ℕ → Report → List Connection → Report → List Connection → Type 0
 KeepsAllMarks bound old held new now = (number : ℕ) → KeepsMarks bound old held new now number
 
@@ -65,7 +65,7 @@ marks_then bound a b c xs ys zs j k p q = λ n. record {
   ];
 }
 
--- one connection was visited
+-- the connection at an index was visited
 pub marks_visit : (bound : ℕ) (b c : Report) (items : List Connection) (i : ℕ) (d y : Connection) → i < length items → y.link ≡ (get_or items i d).link
     → (y.has_ended ≡ true → ((get_or items i d).has_ended ≡ true) ⊎ IsEmptied (b.unread (get_or items i d).link.number) (c.unread (get_or items i d).link.number))
     → (y.is_shut ≡ true → ((get_or items i d).is_shut ≡ true) ⊎ ((get_or items i d).link.number < bound → IsRaised (b.is_shut (get_or items i d).link.number) (c.is_shut (get_or items i d).link.number)))
@@ -91,12 +91,12 @@ remove_shut_at true x xs l e more (inr m) = rw e (elim (more m) [ inl stays ↦ 
 remove_shut_at false x xs l e more (inl same) = rw e (inl (inl same))
 remove_shut_at false x xs l e more (inr m) = rw e (elim (more m) [ inl stays ↦ inl (inr stays) | inr went ↦ inr (inr went) ])
 
--- what is removed was shut
+-- a removed connection was marked as shut
 pub remove_shut : (held : List Connection) (l : Link) → IsAmong (links_of held) l → IsAmong (links_of (filter (λ x. not x.is_shut) held)) l ⊎ IsMarked was_shut held l.number
 remove_shut [] l m = absurd m
 remove_shut (x ∷ xs) l m = remove_shut_at x.is_shut x xs l refl (remove_shut xs l) m
 
--- a visit after which the reads of its connection have ended as before
+-- a visit that keeps the mark of ended reads
 pub ended_visit : (held items : List Connection) (i : ℕ) (d y : Connection) → i < length items → y.link ≡ (get_or items i d).link → y.has_ended ≡ (get_or items i d).has_ended → ((n : ℕ) → IsMarked reads_ended items n → IsMarked reads_ended held n) → (n : ℕ) → IsMarked reads_ended (set items i y) n → IsMarked reads_ended held n
 ended_visit held items i d y lt same e so_far n m = elim (marked_set reads_ended items i y n m) [
   | inl new ↦
@@ -145,7 +145,7 @@ grows_insert held place c e f = record {
 pub more_same : (held : List Connection) (f : ℕ) → HoldsMore held f held f
 more_same held f = record { grows = grows_same held; marks = adds_same held; rising = λ r. r; faults = omega arith }
 
--- the count may rise between the two
+-- the count of faults may rise in between
 pub more_then : (xs ys zs : List Connection) (a b c d : ℕ) → HoldsMore xs a ys b → b ≤ c → HoldsMore ys c zs d → HoldsMore xs a zs d
 more_then xs ys zs a b c d p between q = record {
   grows = grows_then xs ys zs p.grows q.grows;

@@ -1,4 +1,4 @@
--- What a visit of one connection does to it, and what it asks for.
+-- One visit: its effect on the connection, and its calls.
 use Rattle.std.proofs.Common.{◌≡◌, ◌≤◌, ℕ, ltb, Bool, true, false, not, cond, ◌&&◌, List, [], ◌∷◌, length, Option, None, Some, Ok, refl, sym, ap, ◌∙◌, subst, arith, inl, inr}
 use Rattle.std.proofs.lemmas.Bool.{and_from, and_parts, cases_eq, ltb-false, ltb-true, not-true}
 use Rattle.std.specs.Borrow.{Bor}
@@ -30,7 +30,7 @@ at_most_then a b c p q = omega arith
 
 -- ---- the marks
 
--- it is as it was
+-- the connection is unchanged
 pub visited_same : (kind : Event → Type 0) (x : Connection) (before after : Scene) → Visits kind x.link.id before.host after.host
     → after.bound ≡ before.bound → before.failed ≤ after.failed → IsVisited kind x x before after
 visited_same kind x before after v bound faults = record {
@@ -44,7 +44,7 @@ visited_same kind x before after v bound faults = record {
   next = next_rises before.host after.host v.steps v.run;
 }
 
--- its reads have ended
+-- the reads of the connection have ended
 pub visited_ended : (kind : Event → Type 0) (x : Connection) (before after : Scene) → Visits kind x.link.id before.host after.host
     → after.bound ≡ before.bound → before.failed ≤ after.failed → IsVisited kind x (record x { has_ended = true }) before after
 visited_ended kind x before after v bound faults = record {
@@ -58,7 +58,7 @@ visited_ended kind x before after v bound faults = record {
   next = next_rises before.host after.host v.steps v.run;
 }
 
--- it was shut, after a call that kept its flag
+-- the connection was shut, after a call that did not shut it
 pub visited_shut : (kind : Event → Type 0) (x : Connection) (before after : Scene) (mid : Report)
     → Stays (before.report.is_shut x.link.number) (mid.is_shut x.link.number) → Shuts before.bound mid after.report x.link.number
     → Visits kind x.link.id before.host after.host → find after.host.slots x.link.id ≡ None
@@ -80,7 +80,7 @@ none_anew : (b : Bool) (calls : List Call) → cond (b && not b) calls [] ≡ []
 none_anew true calls = refl
 none_anew false calls = refl
 
--- one that stays as it is asks for no shut
+-- an unchanged connection needs no shut
 pub asks_no_shut : (a : Option (List Call)) (x : Connection) → Asks a a (shuts_of x x)
 asks_no_shut a x = subst (λ (calls : List Call). Asks a a calls) (sym (none_anew x.is_shut (Shut x.link.number ∷ []))) (asks_none a)
 
@@ -108,7 +108,7 @@ none_taken a b number n bytes e w other =
 at_zero : (n : ℕ) → n ≤ 0 → n ≡ 0
 at_zero n h = omega arith
 
--- what was queued was written, in one write
+-- the output was written in one write
 pub wrote : (x : Connection) (before after : Scene) (n : ℕ) (bytes : Bor (List ℕ)) → x.is_shut ≡ false → IsQueue (find before.host.slots x.link.id) (Some bytes)
     → ltb 0 (length (queued_of (find before.host.slots x.link.id))) ≡ true → Writes before.report after.report x.link.number (Ok n) bytes.now → Asks before.asked after.asked (Write x.link.number bytes.now ∷ [])
     → IsVisited IsOutput x x before after → VisitsOne writes_of IsOutput (ltb 0 n) x x before after
@@ -119,7 +119,7 @@ wrote x before after n bytes «open» queue some w asked visit = record {
   stirs = λ e. inl (inr (write_longer before.report after.report x.link.number n bytes.now (ltb-true 0 n e) w));
 }
 
--- the write failed, and it was shut
+-- the write failed, and the connection was shut
 pub wrote_none : (x : Connection) (before after : Scene) (mid : Option (List Call)) (bytes : Bor (List ℕ)) → x.is_shut ≡ false → IsQueue (find before.host.slots x.link.id) (Some bytes)
     → ltb 0 (length (queued_of (find before.host.slots x.link.id))) ≡ true → Asks before.asked mid (Write x.link.number bytes.now ∷ []) → Asks mid after.asked (Shut x.link.number ∷ [])
     → IsVisited IsOutput x (record x { is_shut = true }) before after → VisitsOne writes_of IsOutput true x (record x { is_shut = true }) before after
@@ -132,11 +132,11 @@ wrote_none x before after mid bytes «open» queue some asked shut visit = recor
 
 -- ---- a read
 
--- it was not one to read from
+-- the connection is not to be read
 pub no_read : (host : HostState) (x : Connection) → is_to_read host x ≡ false → reads_of host x x ≡ []
 no_read host x e = ap (λ (due : Bool). cond due (Read x.link.number CHUNK_MAX ∷ shuts_of x x) []) e
 
--- nothing was there yet
+-- no byte came
 pub read_nothing : (x : Connection) (before after : Scene) (buf : List ℕ) → is_to_read before.host x ≡ true → Reads before.report after.report x.link.number (Ok Nothing) buf
     → Asks before.asked after.asked (Read x.link.number CHUNK_MAX ∷ []) → IsVisited IsInput x x before after → VisitsOne reads_of IsInput false x x before after
 read_nothing x before after buf due r asked visit = record {
@@ -149,7 +149,7 @@ read_nothing x before after buf due r asked visit = record {
 not_ended : (x : Connection) (wants : Bool) → (not x.has_ended && not x.is_shut) && wants ≡ true → x.has_ended ≡ false
 not_ended x wants e = not-true x.has_ended (and_parts (not x.has_ended) (not x.is_shut) (and_parts (not x.has_ended && not x.is_shut) wants e).0).0
 
--- the reads came to their end
+-- the reads ended
 pub read_ended : (x : Connection) (before after : Scene) → is_to_read before.host x ≡ true
     → Asks before.asked after.asked (Read x.link.number CHUNK_MAX ∷ []) → IsVisited IsInput x (record x { has_ended = true }) before after
     → VisitsOne reads_of IsInput true x (record x { has_ended = true }) before after
@@ -160,13 +160,13 @@ read_ended x before after due asked visit = record {
   stirs = λ e. inr (inl (not_ended x _ due, refl));
 }
 
--- at the end nothing is left
+-- at the end of input nothing is left
 pub emptied : (a b : Option (List ℕ)) → Consumes a b [] → IsAtEnd b → IsEmptied a b
 emptied None b p q = tt
 emptied (Some bytes) None p q = absurd p
 emptied (Some bytes) (Some left) p q = ap (λ (l : List ℕ). Some l) q
 
--- the read failed, and it was shut
+-- the read failed, and the connection was shut
 pub read_none : (x : Connection) (before after : Scene) (mid : Option (List Call)) → is_to_read before.host x ≡ true → x.is_shut ≡ false
     → Asks before.asked mid (Read x.link.number CHUNK_MAX ∷ []) → Asks mid after.asked (Shut x.link.number ∷ [])
     → IsVisited IsInput x (record x { is_shut = true }) before after → VisitsOne reads_of IsInput true x (record x { is_shut = true }) before after
@@ -177,7 +177,7 @@ read_none x before after mid due «open» asked shut visit = record {
   stirs = λ e. inr (inr («open», refl));
 }
 
--- it gave bytes, which were fed
+-- bytes came, and were fed
 pub read_bytes : (x y : Connection) (before mid after : Scene) (lent : List ℕ) → 1 ≤ length lent → is_to_read before.host x ≡ true → x.is_shut ≡ false → mid.bound ≡ before.bound → before.failed ≤ mid.failed
     → Reads before.report mid.report x.link.number (Ok Bytes) lent → Asks before.asked mid.asked (Read x.link.number CHUNK_MAX ∷ [])
     → Visits IsInput x.link.id before.host after.host → FeedsOne lent x y mid after → VisitsOne reads_of IsInput true x y before after
@@ -199,11 +199,11 @@ read_bytes x y before mid after lent some due «open» bound faults r asked step
 
 -- ---- an end
 
--- it was shut, or is not finished with
+-- the connection is not to be shut
 pub no_end : (host : HostState) (x : Connection) → is_to_shut host x ≡ false → ends_of host x x ≡ []
 no_end host x e = ap (λ (due : Bool). cond due (Shut x.link.number ∷ []) []) e
 
--- it was finished with, and shut
+-- the connection was finished with, and shut
 pub ended : (x : Connection) (before after : Scene) → x.is_shut ≡ false → is_finished before.host x ≡ true → Asks before.asked after.asked (Shut x.link.number ∷ [])
     → IsVisited IsEnd x (record x { is_shut = true }) before after → VisitsOne ends_of IsEnd true x (record x { is_shut = true }) before after
 ended x before after «open» finished asked visit =

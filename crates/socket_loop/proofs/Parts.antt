@@ -1,4 +1,4 @@
--- Parts of a turn, one after the other.
+-- Consecutive parts of a turn.
 use Rattle.std.proofs.Common.{◌≡◌, ◌≢◌, ◌⊎◌, ℕ, zero, suc, ◌<◌, ◌≤◌, true, false, List, [], ◌∷◌, ◌++◌, length, get_or, set, refl, sym, ap, ◌∙◌, subst, arith, append_assoc, append-nil, inl, inr}
 use Rattle.std.proofs.lemmas.List.{get_or-map, length-map}
 use Rattle.std.proofs.Math.Seq.{map-set_same}
@@ -76,7 +76,7 @@ ends_then m n a b c h i j s t l x y r w (inr p) q =
 
 -- ---- one connection
 
--- nothing of it happened
+-- nothing happened to the connection
 pub carried_nothing : (m : List Connection) (n : ℕ) (a b : Report) (h i : HostState) (s : List Step) (l : Link) → own l.id s ≡ [] → taken l.id s ≡ [] → some_step (closes l.id) s ≡ false → some_step (feed_out_of_memory l.id) s ≡ false → KeepsConnection a b l.number → Transferred m n a h s b i l
 carried_nothing m n a b h i s l o g e f k = record {
   lost = [];
@@ -111,7 +111,7 @@ stays_gone h i id steps r g =
     let b : id.generation < h.slots.next = g.below in
     record { none = (out_gone h i id steps r g).none; below = omega arith }
 
--- what came after bytes that were lost
+-- after lost bytes nothing more is stored
 pub lost_order : (o lost p more : List ℕ) → (lost ≡ []) ⊎ (p ≡ []) → (o ++ lost) ++ (p ++ more) ≡ (o ++ p) ++ (lost ++ more)
 lost_order o lost p more (inl e) = rw e (ap (λ xs. xs ++ (p ++ more)) (append-nil o) ∙ sym (append_assoc o p more))
 lost_order o lost p more (inr e) = rw e (append_assoc o lost more ∙ ap (λ xs. xs ++ (lost ++ more)) (sym (append-nil o)))
@@ -146,7 +146,7 @@ carries_then m n ls s t a b c h i j p q = record {
   all = moves_then a b c p.all q.all;
 }
 
--- no session gets or gives bytes, or is closed
+-- steps that neither store, take nor close
 pub carries_quiet : (m : List Connection) (n : ℕ) (ls : List Link) (steps : List Step) (a b : Report) (h i : HostState) → IsRun h steps i → KeepsAll a b → ((id : SessionId) → own id steps ≡ []) → ((id : SessionId) → taken id steps ≡ []) → ((id : SessionId) → some_step (closes id) steps ≡ false) → ((id : SessionId) → some_step (feed_out_of_memory id) steps ≡ false) → Carries m n ls a h steps b i
 carries_quiet m n ls steps a b h i r k o g e f = record {
   chain = r;

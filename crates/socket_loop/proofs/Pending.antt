@@ -1,4 +1,4 @@
--- Pending sessions, one after another, and what is finished with.
+-- Pending sessions, and connections that are finished with.
 use Rattle.std.proofs.Common.{◌≡◌, ℕ, zero, suc, ◌+◌, ◌<◌, Bool, true, false, List, [], ◌∷◌, ◌++◌, get_or, take, length, Option, None, Some, not, ◌&&◌, ◌==◌, refl, sym, ap, ◌∙◌, arith}
 use Rattle.std.specs.Prelude.{◌||◌, is_some, nat_lt}
 use Rattle.std.proofs.lemmas.Bool.{lt-ltb, ne_eqb}
@@ -26,7 +26,7 @@ any_last : (h : HostState) (xs : List Connection) (x : Connection) → any_pendi
 any_last h [] x = or_swap (pending_of (find h.slots x.link.id))
 any_last h (y ∷ ys) x = ap (λ (b : Bool). pending_of (find h.slots y.link.id) || b) (any_last h ys x) ∙ or_assoc (pending_of (find h.slots y.link.id)) (any_pending h (links_of ys)) (pending_of (find h.slots x.link.id))
 
--- one more is not pending
+-- one more session is not pending
 pub any_none : (h : HostState) (xs : List Connection) (i : ℕ) (d : Connection) → i < length xs → any_pending h (links_of (take i xs)) ≡ false → pending_of (find h.slots (get_or xs i d).link.id) ≡ false → any_pending h (links_of (take (i + 1) xs)) ≡ false
 any_none h xs i d lt e f = ap (λ ys. any_pending h (links_of ys)) (take_more xs i d lt) ∙ (any_last h (take i xs) (get_or xs i d) ∙ rw (e, f) refl)
 
@@ -34,7 +34,7 @@ or_true : (x : Bool) → (x || true) ≡ true
 or_true true = refl
 or_true false = refl
 
--- one is pending
+-- one session is pending
 pub any_one : (h : HostState) (xs : List Connection) (i : ℕ) (d : Connection) → i < length xs → pending_of (find h.slots (get_or xs i d).link.id) ≡ true → any_pending h (links_of xs) ≡ true
 any_one h [] i d lt e = absurd (omega arith)
 any_one h (x ∷ xs) zero d lt e = ap (λ (b : Bool). b || any_pending h (links_of xs)) e
@@ -44,7 +44,7 @@ none_queued : (bytes : List ℕ) → not (nat_lt 0 (length bytes)) ≡ (length b
 none_queued [] = refl
 none_queued (x ∷ bytes) = ap not (lt-ltb 0 (length (x ∷ bytes)) (omega arith)) ∙ sym (ne_eqb (length (x ∷ bytes)) 0 (λ e. absurd (omega arith)))
 
--- what a session wants and has tells whether its connection is finished with
+-- the answers of a session tell whether its connection is finished with
 pub finished_by : (has_ended : Bool) (found : Option SessionView) → (not (is_some found) || (((has_ended || is_over_of found) && not (nat_lt 0 (length (queued_of found)))) && not (pending_of found))) ≡ is_finished_with has_ended found
 finished_by has_ended None = refl
 finished_by has_ended (Some t) = ap (λ (b : Bool). ((has_ended || t.state.is_over) && b) && not (is_pending t)) (none_queued t.queued)

@@ -7,7 +7,7 @@ use Rattle.transport.specs.Report.{Report, KeepsAll}
 use Rattle.transport.proofs.Reported.{kept_then}
 use Rattle.socket_loop.specs.Visits.{IsQuiet}
 
--- neither of the two
+-- both are false
 pub record Neither (x y : Bool) : Type 0 where
   pub first : x ≡ false
   pub second : y ≡ false
@@ -31,7 +31,7 @@ quiet_next moved has all a b c items i d new old f p q = λ e.
     let n : Neither moved has = f e in
     (λ m. kept_then a b c m ((p n.first).0 m) ((q n.second).0 m), ap (λ (x : Connection). set items i x) (q n.second).1 ∙ (set-get_or items i d ∙ (p n.first).1))
 
--- the five parts of a turn, and then what was shut is removed
+-- the parts of a turn, then the removal of shut connections
 pub quiet_turn : (p q r s t : Bool) (a b c d e : Report) (xs ys zs ws vs : List Connection) (stays : Connection → Bool) → IsQuiet p a xs b ys → IsQuiet q b ys c zs → IsQuiet r c zs d ws → IsQuiet s d ws e vs → IsQuiet ((((p || q) || r) || s) || t) a (filter stays xs) e (filter stays vs)
 quiet_turn p q r s t a b c d e xs ys zs ws vs stays f g h i = λ none.
     let all : IsQuiet (((p || q) || r) || s) a xs e vs =

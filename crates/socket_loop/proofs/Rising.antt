@@ -1,4 +1,4 @@
--- Connections by rising slot.
+-- Connections sorted by slot.
 use Rattle.std.proofs.Common.{◌≡◌, ℕ, zero, suc, ◌<◌, ◌≤◌, Bool, true, false, cond, nat_lt, List, [], ◌∷◌, refl, arith}
 use Rattle.std.proofs.lemmas.Bool.{ltb-true, ltb-false}
 use Rattle.std.specs.Prelude.{filter, insert}
@@ -23,7 +23,7 @@ rising_at true x xs c e p later =
     rw e ((le, from_less c.link.id.slot x.link.id.slot (links_of xs) le p.0), p)
 rising_at false x xs c e p later = rw e (from_insert x.link.id.slot (place_for c.link.id.slot xs) xs c (ltb-false c.link.id.slot x.link.id.slot e) p.0, later)
 
--- at its place a new connection leaves the slots rising
+-- inserting a connection at its place keeps the slots rising
 pub rising_insert : (xs : List Connection) (c : Connection) → IsRising (links_of xs) → IsRising (links_of (insert xs (place_for c.link.id.slot xs) c))
 rising_insert [] c p = (tt, tt)
 rising_insert (x ∷ xs) c p = rising_at (nat_lt c.link.id.slot x.link.id.slot) x xs c refl p (rising_insert xs c p.1)
@@ -40,7 +40,7 @@ kept_at : (b : Bool) (test : Connection → Bool) (x : Connection) (xs : List Co
 kept_at true test x xs e from later = rw e (from, later)
 kept_at false test x xs e from later = rw e later
 
--- where some are removed, the others are rising still
+-- removing connections keeps the slots rising
 pub rising_filter : (test : Connection → Bool) (xs : List Connection) → IsRising (links_of xs) → IsRising (links_of (filter test xs))
 rising_filter test [] p = tt
 rising_filter test (x ∷ xs) p = kept_at (test x) test x xs refl (from_filter x.link.id.slot test xs p.0) (rising_filter test xs p.1)

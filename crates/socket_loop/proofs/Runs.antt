@@ -1,4 +1,4 @@
--- Runs of a host, one after the other.
+-- Consecutive runs of a host.
 use Rattle.std.proofs.Common.{◌≡◌, ◌⊎◌, ℕ, ◌<◌, ◌≤◌, Bool, true, false, List, [], ◌∷◌, ◌++◌, Option, Some, None, refl, sym, ap, ◌∙◌, arith, append_assoc, inl, inr}
 use Rattle.std.specs.Prelude.{◌||◌}
 use Rattle.std.proofs.lemmas.Bool.{or_left, or_right, or_cases, or_from}
@@ -50,7 +50,7 @@ closes-works id budget [] os = refl
 closes-works id budget (i ∷ ids) [] = refl
 closes-works id budget (i ∷ ids) (o ∷ os) = closes-works id budget ids os
 
--- a test of steps that holds for one part
+-- a test passed in one part is passed in the whole
 either_left : (x y z : Bool) → (y ≡ true → z ≡ true) → (x || y) ≡ true → (x || z) ≡ true
 either_left true y z f e = refl
 either_left false y z f e = f e
@@ -90,7 +90,7 @@ starves_admission id (Work other n) o k = absurd k
 starves_admission id (Take other n) o k = absurd k
 starves_admission id (Close other) o k = absurd k
 
--- no opening starves
+-- an `Open` refuses no feed
 pub feed_out_of_memory-admissions : (id : SessionId) (steps : List Step) → Each (λ step. IsAdmission step.event) steps → some_step (feed_out_of_memory id) steps ≡ false
 feed_out_of_memory-admissions id [] k = refl
 feed_out_of_memory-admissions id (s ∷ rest) k = or_from (feed_out_of_memory id s.event s.outcome) (some_step (feed_out_of_memory id) rest) (starves_admission id s.event s.outcome k.0) (feed_out_of_memory-admissions id rest k.1)
@@ -102,7 +102,7 @@ closes_admission id (Work other n) o k = absurd k
 closes_admission id (Take other n) o k = absurd k
 closes_admission id (Close other) o k = absurd k
 
--- nor does any close
+-- an `Open` closes no session
 pub closes-admissions : (id : SessionId) (steps : List Step) → Each (λ step. IsAdmission step.event) steps → some_step (closes id) steps ≡ false
 closes-admissions id [] k = refl
 closes-admissions id (s ∷ rest) k = or_from (closes id s.event s.outcome) (some_step (closes id) rest) (closes_admission id s.event s.outcome k.0) (closes-admissions id rest k.1)
@@ -143,7 +143,7 @@ closed_none : (old new : HostState) (id : SessionId) (o : Outcome) (found : Opti
 closed_none old new id o None e u = ap (λ (h : HostState). find h.slots id) u.same ∙ e
 closed_none old new id o (Some s) e c = c.none
 
--- after a `Close` the id finds nothing
+-- after its `Close` an id finds no session
 pub closed : (old new : HostState) (id : SessionId) (o : Outcome) → Stepped old (Close id) o new → id.generation < old.slots.next → IsGone new id
 closed old new id o s h =
     let u : old.slots.next ≤ new.slots.next = step_rises old new (Close id) o s in

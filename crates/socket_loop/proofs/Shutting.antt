@@ -1,4 +1,4 @@
--- Who is shut in a turn has its session closed.
+-- Each connection shut in a turn has its session closed.
 use Rattle.std.proofs.Common.{◌≡◌, ◌⊎◌, ℕ, zero, suc, ◌<◌, ◌≤◌, List, [], ◌∷◌, ◌++◌, Option, refl, sym, ap, ◌∙◌, arith, inl, inr, length}
 use Rattle.session_slots.specs.declared.id.SessionId.{SessionId}
 use Rattle.host_core.specs.Steps.{HostState}
@@ -18,12 +18,12 @@ use Rattle.socket_loop.proofs.Runs.{run-append, next_rises}
 use Rattle.socket_loop.proofs.Accepting.{tied_of}
 use Rattle.socket_loop.specs.Accepting.{AddsNoMark}
 
--- some steps lead from here to there
+-- some run leads from `h` to `i`
 record Onward (h i : HostState) : Type 0 where
   pub steps : List Step
   pub run : IsRun h steps i
 
--- one of these links has the number, and its session is gone
+-- a link with the number has its session gone
 record ClosedOne (h : HostState) (ls : List Link) (n : ℕ) : Type 0 where
   pub link : Link
   pub among : IsAmong ls link
@@ -48,7 +48,7 @@ onward (suc n) due kind h i (x ∷ xs) (y ∷ ys) calls p =
     let rest : Onward p.0 i = onward n due kind p.0 i xs ys p.1.0 p.1.1.1.1.1 in
     record { steps = first.steps ++ rest.steps; run = run-append h p.0 i first.steps rest.steps first.run rest.run }
 
--- a connection that is marked as shut was marked before, or its session is gone
+-- a connection marked as shut was marked before, or its session is gone
 mark_visited : (n : ℕ) (due : HostState → Connection → Connection → List Call) (kind : Event → Type 0) (h i : HostState) (xs ys : List Connection) (calls : List Call) → AreVisitedTo n due kind h xs ys calls i → ((l : Link) → IsAmong (links_of xs) l → l.id.generation < h.slots.next) → (number : ℕ) → IsMarked was_shut ys number
     → IsMarked was_shut xs number ⊎ ClosedOne i (links_of xs) number
 mark_visited zero due kind h i xs ys calls p below number m = inl (rw p.0 at m)
@@ -73,11 +73,11 @@ mark_visited (suc n) due kind h i (x ∷ xs) (y ∷ ys) calls p below number (in
       | inr one ↦ inr (record { link = one.link; among = inr one.among; same = one.same; gone = one.gone })
     ]
 
--- each connection that was met and is marked as shut was so before the turn, or its session is gone
+-- each connection met and marked as shut was marked before the turn, or its session is gone
 abbrev pub ShutsAll : List Connection → List Connection → List Connection → HostState → Type 0
 ShutsAll held met last after = (x : Link) → IsAmong (links_of met) x → IsMarked was_shut last x.number → IsMarked was_shut held x.number ⊎ IsGone after x.id
 
--- the link of the number is the one that was closed
+-- the link with the number is the one whose session is gone
 closed_tied : (bound : ℕ) (i m : HostState) (ls : List Link) (x : Link) → FitsOne ls bound i x → ClosedOne m ls x.number → IsGone m x.id
 closed_tied bound i m ls x fit c =
     let t : Ties c.link x = tied_of ls x c.link fit.tied c.among in

@@ -83,7 +83,7 @@ among_at [] i d lt = absurd (omega arith)
 among_at (x ∷ xs) zero d lt = inl refl
 among_at (x ∷ xs) (suc i) d lt = inr (among_at xs i d (omega arith))
 
--- one connection was visited
+-- one more connection was visited
 pub stirs_next : (moved has : Bool) (a b c : Report) (xs items : List Connection) (i : ℕ) (d y : Connection) → i < length items → links_of items ≡ links_of xs → AllMove a b → AllMove b c → AllKeepMade xs items → KeepsMade (get_or items i d) y → (moved ≡ true → Stirs a xs b items)
     → (has ≡ true → Transfers b c (get_or items i d).link.number ⊎ EndsOrShuts (get_or items i d) y) → (moved || has) ≡ true → Stirs a xs c (set items i y)
 stirs_next moved has a b c xs items i d y lt same j k made here p q e = elim (or_cases moved has e) [
@@ -95,7 +95,7 @@ stirs_next moved has a b c xs items i d y lt same j k made here p q e = elim (or
     visit (inl t) = inl ((get_or items i d).link, (among_at items i d lt, t))
     visit (inr r) = inr (one_set items i d y lt r)
 
--- the parts after the accepting
+-- the parts after the accepts
 pub parts_stir : (q r s : Bool) (b c d e : Report) (ys zs ws vs : List Connection) → links_of zs ≡ links_of ys → links_of ws ≡ links_of zs → AllMove b c → AllMove c d → AllMove d e → AllKeepMade ys zs → AllKeepMade zs ws → AllKeepMade ws vs → (q ≡ true → Stirs b ys c zs) → (r ≡ true → Stirs c zs d ws) → (s ≡ true → Stirs d ws e vs) → ((q || r) || s) ≡ true → Stirs b ys e vs
 parts_stir q r s b c d e ys zs ws vs one two j k l m n o f g h any = elim (or_cases (q || r) s any) [
   | inl first ↦ stirs_then b d e ys ws vs (elim (or_cases q r first) [

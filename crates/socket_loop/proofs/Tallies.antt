@@ -1,4 +1,4 @@
--- How many connections are marked as shut, one visit after the other.
+-- The count of shut connections, visit by visit.
 use Rattle.std.proofs.Common.{◌≡◌, ◌∙◌, ◌+◌, ◌<◌, ℕ, zero, suc, Bool, true, false, List, [], ◌∷◌, ◌++◌, length, cond, get_or, set, take, refl, sym, ap, arith}
 use Rattle.std.specs.Prelude.{◌&&◌, not}
 use Rattle.std.proofs.lemmas.List.{take_more}
@@ -9,7 +9,7 @@ use Rattle.socket_loop.specs.Links.{links_of}
 use Rattle.socket_loop.specs.declared.connection.Connection.{Connection}
 use Rattle.socket_loop.specs.Tallies.{pending_count, shut_count}
 
--- one for a mark that was made
+-- 1 if the mark was made now
 abbrev newly : Bool → Bool → ℕ
 newly old new = cond (new && not old) 1 0
 
@@ -29,7 +29,7 @@ shut_set (x ∷ xs) (suc n) y d lt stays =
     let rest : newly ((get_or xs n d).is_shut) y.is_shut + shut_count xs ≡ shut_count (set xs n y) = shut_set xs n y d (omega (arith, lt)) stays in
     omega arith
 
--- one more was visited
+-- one more connection was visited
 pub shut_next : (shut one : ℕ) (start held : List Connection) (n : ℕ) (y d : Connection) → n < length held → shut + shut_count start ≡ shut_count held
     → ((get_or held n d).is_shut ≡ true → y.is_shut ≡ true) → one ≡ newly ((get_or held n d).is_shut) y.is_shut → (shut + one) + shut_count start ≡ shut_count (set held n y)
 shut_next shut one start held n y d lt so_far stays is =
@@ -42,7 +42,7 @@ pending_last h (y ∷ ys) x =
     let rest : pending_count h (links_of (ys ++ x ∷ [])) ≡ pending_count h (links_of ys) + cond (pending_of (find h.slots x.link.id)) 1 0 = pending_last h ys x in
     omega arith
 
--- one more was asked
+-- one more connection was counted
 pub pending_more : (h : HostState) (xs : List Connection) (i : ℕ) (d : Connection) (n : ℕ) (is : Bool) (one : ℕ) → i < length xs → n ≡ pending_count h (links_of (take i xs))
     → is ≡ pending_of (find h.slots (get_or xs i d).link.id) → one ≡ cond is 1 0 → n + one ≡ pending_count h (links_of (take (i + 1) xs))
 pending_more h xs i d n is one lt so_far same counts =

@@ -1,4 +1,4 @@
--- A whole turn.
+-- A turn, put together from its parts.
 use Rattle.std.proofs.Common.{◌≡◌, ◌⊎◌, ℕ, ◌<◌, ◌≤◌, Bool, true, false, List, [], ◌∷◌, ◌++◌, Option, Some, None, refl, sym, arith, inl, inr, length}
 use Rattle.std.specs.Prelude.{filter, not, ◌||◌, IsSome}
 use Rattle.std.proofs.lemmas.Bool.{cond_both}
@@ -60,12 +60,12 @@ met_keeps : (ls : List Link) (f t : ℕ) (x : List Accepted) (g : ℕ) (a b : Re
 met_keeps ls f t x g a b h s l fit k (inl old) = k l.number (fit l old).number
 met_keeps ls f t x g a b h s l fit k (inr new) = new.kept
 
--- a connection that was accepted joins
+-- an accepted connection with a session joins
 met_are : (ls : List Link) (f t : ℕ) (x : List Accepted) (g last : ℕ) (a b : Report) (s : List Step) (l : Link) → l.id.generation < last → some_step (closes l.id) s ≡ false → IsAmong ls l ⊎ IsNew f t x g a b s l → IsAmong ls l ⊎ Joins f t x g last s l
 met_are ls f t x g last a b s l lt unclosed (inl old) = inl old
 met_are ls f t x g last a b s l lt unclosed (inr new) = inr (record { least = new.least; most = new.most; answered = new.answered; opened = new.opened; unclosed = unclosed; fresh = new.fresh; below = lt })
 
--- a connection that is held no more was shut, or was marked as shut before
+-- a connection no longer held was shut, or was marked as shut before
 went : (t : ℕ) (a e : Report) (held last : List Connection) (m : HostState) (l : Link) → KeepsAllMarks t a held e last → (IsMarked was_shut last l.number → IsMarked was_shut held l.number ⊎ IsGone m l.id) → IsAmong (links_of (filter (λ x. not x.is_shut) last)) l ⊎ IsMarked was_shut last l.number
     → IsAmong (links_of (filter (λ x. not x.is_shut) last)) l ⊎ (IsMarked was_shut held l.number ⊎ ((l.number < t → IsRaised (a.is_shut l.number) (e.is_shut l.number)) × IsGone m l.id))
 went t a e held last m l marks shutting (inl stays) = inl stays
@@ -74,7 +74,7 @@ went t a e held last m l marks shutting (inr shut) = inr (elim ((marks l.number)
   | inr report ↦ elim (shutting shut) [ inl was ↦ inl was | inr closed ↦ inr ((report, closed)) ]
 ])
 
--- none of those that are left is marked as shut
+-- no connection left is marked as shut
 none_shut : (xs : List Connection) (n : ℕ) → IsMarked was_shut (filter (λ x. not x.is_shut) xs) n → ⊥
 none_shut [] n m = m
 none_shut (x ∷ xs) n m =
@@ -214,7 +214,7 @@ turned slice p q r s w held accepted_ read_ written_ last f t a b c d e h i j k 
     over_marks n (inl was) = inl was
     over_marks n (inr empty) = inr (emptied_move a d e n empty shuts.carries.all)
 
--- a turn with what it met, and the states between its parts
+-- a turn with the connections it met, and the states between its parts
 pub record TurnWith (slice : ℕ) (moved : Bool) (before after : Scene) (admissions : List Step) (met : List Link) (start end : HostState) (marks : List Connection) (accepted : List Accepted) (refused : ℕ) : Type 0 where
   pub turn : IsTurn slice moved before after
   pub admissions_are : turn.host.parts.admissions ≡ admissions
@@ -277,7 +277,7 @@ continues slice moved before after turn = λ l s among found.
 starts : (slice : ℕ) (moved : Bool) (before after : Scene) → IsTurn slice moved before after → ServesNew before (links_of after.held) after
 starts slice moved before after turn = λ l among. turn.meets.starts l (turn.treats.left l among)
 
--- all of a turn, by its calls
+-- a turn from its calls
 pub turns : (slice : ℕ) (moved : Bool) (tally : Tally) (before after : Scene) → AsksTurn slice moved tally before after → (moved ≡ true → (before.bound < after.bound) ⊎ (StirsHeld before.report before.held after.report after.held ⊎ (any_pending after.host (links_of after.held) ≡ true))) → IsQuiet moved before.report (unshut_of before.held) after.report after.held → Turns slice moved tally before after
 turns slice moved tally before after asked moves quiet =
     record { asked = asked; moves = moves; quiet = quiet; continues = continues slice moved before after asked.turn; starts = starts slice moved before after asked.turn }
@@ -290,7 +290,7 @@ tied_filter p (x ∷ xs) l t =
     cond_both (p x) (x ∷ filter p xs) (filter p xs) (λ (ys : List Connection). Each (λ other. Ties other l) (links_of ys))
     (λ yes. (t.0, tied_filter p xs l t.1)) (λ no. tied_filter p xs l t.1)
 
--- the numbers and ids that are left
+-- the links left still fit
 fits_left : (p : Connection → Bool) (held : List Connection) (t : ℕ) (h i : HostState) → h.slots.next ≤ i.slots.next → Fits (links_of held) t h → Fits (links_of (filter p held)) t i
 fits_left p held t h i rises fit = λ l m.
     let one : FitsOne (links_of held) t h l = fit l (among_filtered p held l m) in

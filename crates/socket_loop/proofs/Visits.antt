@@ -1,4 +1,4 @@
--- What a turn does with one connection.
+-- One connection in a turn.
 use Rattle.std.proofs.Common.{◌≡◌, ◌≢◌, ◌⊎◌, ℕ, ◌<◌, ◌≤◌, Bool, true, false, List, [], ◌∷◌, ◌++◌, Option, Some, None, Result, Ok, Err, cond, take, length, refl, sym, ap, ◌∙◌, subst, arith, append-nil, inl, inr}
 use Rattle.std.proofs.lemmas.Bool.{cases_eq, or_left}
 use Rattle.std.specs.Prelude.{IsSome, IsErrOf, ◌||◌}
@@ -33,7 +33,7 @@ use Rattle.socket_loop.proofs.Runs.{run-one, run-two, step_rises}
 use Rattle.socket_loop.proofs.Parts.{carried_nothing}
 use Rattle.socket_loop.specs.Visits.{CarriesBy, IsClosing}
 
--- the event was done
+-- the event was carried out
 abbrev pub is_done : Outcome → Bool
 is_done Done = true
 is_done (Opened id) = false
@@ -64,11 +64,11 @@ gave_others a b h bytes x g apart = g.others x (λ e. apart (sym e))
 pub gave : (a b : Report) (number : ℕ) (lent : List ℕ) → Reads a b number (Ok Bytes) lent → GaveBytes a b number lent
 gave a b number lent r = record { consumed = r.consumed; given = r.given; written = r.written; shut = r.shut; failed = stays_rise _ _ r.failed; others = r.others }
 
--- a read that failed gave nothing
+-- a failed read gave no byte
 pub read_fault : (a b : Report) (number : ℕ) (e : WireFault) (buf : List ℕ) → Reads a b number (Err e) buf → GaveBytes a b number []
 read_fault a b number e buf r = record { consumed = r.consumed; given = r.given; written = r.written; shut = r.shut; failed = raised_rise _ _ r.failed; others = r.others }
 
--- a write that failed took nothing
+-- a failed write took no byte
 pub write_fault : (a b : Report) (number : ℕ) (e : WireFault) (buf : List ℕ) → Writes a b number (Err e) buf → GaveBytes a b number []
 write_fault a b number e buf w = record { consumed = Consumes-none _ _ w.unread; given = Appends-none _ _ w.given; written = Keeps-nothing _ _ w.appended; shut = w.shut; failed = raised_rise _ _ w.failed; others = w.others }
 
@@ -99,7 +99,7 @@ carried_fed m bound h a b before after chunk l t g none =
           carried_nothing m bound a b before after (record { event = Feed h.id chunk; outcome = Done } ∷ []) l (rw off refl) refl refl refl (gave_others a b h chunk l.number g apart)
     ]
 
--- what was read was stored
+-- the bytes read were stored
 pub carries_by_fed : (m : List Connection) (bound : ℕ) (h : Link) (a b : Report) (before after : HostState) (chunk : List ℕ) (o : Outcome) → is_done o ≡ true → GaveBytes a b h.number chunk → Stays (a.has_failed h.number) (b.has_failed h.number) → IsStep before (record { event = Feed h.id chunk; outcome = o }) after → CarriesBy IsInput m bound (h ∷ []) a before b after
 carries_by_fed m bound h a b before after chunk Done e g none s = record {
   steps = record { event = Feed h.id chunk; outcome = Done } ∷ [];
@@ -122,7 +122,7 @@ carries_by_fed m bound h a b before after chunk (Refused fault) e g none s = abs
 same_link : (h l : Link) → h.number ≡ l.number → h.id ≡ l.id → h ≡ l
 same_link h l e f = λ i. record { number = e i; id = f i }
 
--- steps in which a session is closed, and nothing of it or of another one happens else
+-- the steps close a session, and do nothing else
 record Closing (id : SessionId) (steps : List Step) : Type 0 where
   pub no_own : (other : SessionId) → own other steps ≡ []
   pub no_taken : (other : SessionId) → taken other steps ≡ []
@@ -179,13 +179,13 @@ pub carries_by_fault : (kind : Event → Type 0) (m : List Connection) (bound : 
 carries_by_fault kind m bound h a b c before after can g e s close =
     carries_by_closing kind m bound h a b c before after (record { event = Close h.id; outcome = close.outcome } ∷ []) [] (can, tt) (run-one before after _ close.step) g s (closing_alone h close.outcome) (inl refl) (λ e. absurd (cc)) (inl (failed_through a b c bound h.number e s))
 
--- it was finished with, and the connection was shut
+-- the connection was finished with, and shut
 pub carries_by_finished : (m : List Connection) (bound : ℕ) (h : Link) (a c : Report) (before after : HostState) (has_ended : Bool) → (has_ended ≡ true → IsMarked reads_ended m h.number) → is_finished_with has_ended (find before.slots h.id) ≡ true → Shuts bound a c h.number → IsClosing before h.id after → CarriesBy IsEnd m bound (h ∷ []) a before c after
 carries_by_finished m bound h a c before after has_ended marked finished s close =
     carries_by_closing IsEnd m bound h a a c before after (record { event = Close h.id; outcome = close.outcome } ∷ []) [] (tt, tt) (run-one before after _ close.step) (gave_nothing a h.number) s (closing_alone h close.outcome) (inl refl) (λ e. absurd (cc))
     (inr (inr (record { earlier = []; outcome = close.outcome; later = []; steps_are = refl; moment = before; run = run-start before; onward = run-one before after _ close.step; first = refl; has_ended = has_ended; marked = marked; finished = finished })))
 
--- a feed of a session that wants input is refused for memory alone
+-- a session that wants input refuses a feed only for want of memory
 pub refused_for_memory : (before after : HostState) (id : SessionId) (chunk : List ℕ) (o : Outcome) (found : Option SessionView) → find before.slots id ≡ found → wants_input_of found ≡ true → length chunk ≤ CHUNK_MAX → OnSession (Feeds chunk) before id found o after → is_done o ≡ false → o ≡ Refused OutOfMemory
 refused_for_memory before after id chunk o None e w few p d = absurd (cc)
 refused_for_memory before after id chunk Done (Some t) e w few p d = absurd (cc)
@@ -197,7 +197,7 @@ refused_for_memory before after id chunk (Refused UnknownSession) (Some t) e w f
 refused_for_memory before after id chunk (Refused OutOfMemory) (Some t) e w few p d = refl
 refused_for_memory before after id chunk (Refused NotReady) (Some t) e w few p d = absurd (p.went.0 (w, few))
 
--- what was read was refused for memory, and the connection was shut
+-- memory ran out for the bytes read, and the connection was shut
 pub carries_by_starved : (m : List Connection) (bound : ℕ) (h : Link) (a b c : Report) (before mid after : HostState) (chunk : List ℕ) (o : Outcome) → wants_input_of (find before.slots h.id) ≡ true → length chunk ≤ CHUNK_MAX → 1 ≤ length chunk → is_done o ≡ false → GaveBytes a b h.number chunk → Shuts bound b c h.number → IsStep before (record { event = Feed h.id chunk; outcome = o }) mid → IsClosing mid h.id after → IsGone after h.id → CarriesBy IsInput m bound (h ∷ []) a before c after
 carries_by_starved m bound h a b c before mid after chunk o wants few some d g s step close out =
     let is : o ≡ Refused OutOfMemory = refused_for_memory before mid h.id chunk o (find before.slots h.id) refl wants few step.stepped.0 d in
@@ -218,7 +218,7 @@ wants_some : (f : Option SessionView) → wants_input_of f ≡ true → IsSome f
 wants_some None e = absurd (cc)
 wants_some (Some t) e = refl
 
--- a session that wanted input has an id from before
+-- the id of a session that wanted input was given before
 pub wanted_below : (host mid : HostState) (id : SessionId) (event : Event) (o : Outcome) → wants_input_of (find host.slots id) ≡ true → IsBelow host.slots → Stepped host event o mid → id.generation < mid.slots.next
 wanted_below host mid id event o e below s =
     let b : id.generation < host.slots.next = below id (wants_some (find host.slots id) e) in
@@ -265,7 +265,7 @@ carried_passed m bound h a b before after n bytes l t w =
           carried_nothing m bound a b before after (record { event = Take h.id n; outcome = Gave (take n bytes) } ∷ []) l refl (rw off refl) refl refl (w.others l.number (λ e. apart (sym e)))
     ]
 
--- a passing that was asked for no more than is queued is done
+-- taking no more than is queued succeeds
 passed_done : {U : Type 0} (before after : HostState) (id : SessionId) (n : ℕ) (bytes : List ℕ) (r : Result U HostFault) (found : Option SessionView) → find before.slots id ≡ found → IsSome found → queued_of found ≡ bytes → n ≤ length bytes → OnSession (Takes n) before id found (passed_of (take n (queued_of found)) r) after → (IsErrOf r OutOfMemory → ⊥) → passed_of (take n (queued_of found)) r ≡ Gave (take n bytes)
 passed_done before after id n bytes r None e some q few p none = absurd (cc)
 passed_done before after id n bytes (Ok u) (Some t) e some q few p none = ap (λ (xs : List ℕ). Gave (take n xs)) q
@@ -274,7 +274,7 @@ passed_done before after id n bytes (Err UnknownSession) (Some t) e some q few p
 passed_done before after id n bytes (Err OutOfMemory) (Some t) e some q few p none = absurd (none refl)
 passed_done before after id n bytes (Err NotReady) (Some t) e some q few p none = (let l : length t.queued ≡ length bytes = ap length q in let m : length t.queued < n = p.went.0 in absurd (omega arith))
 
--- what was written was passed
+-- the bytes written were taken from the queue
 pub carries_by_passed : {U : Type 0} (m : List Connection) (bound : ℕ) (h : Link) (a b : Report) (before after : HostState) (n : ℕ) (bytes : Bor (List ℕ)) (r : Result U HostFault) → IsQueue (find before.slots h.id) (Some bytes) → n ≤ length bytes.now → Writes a b h.number (Ok n) bytes.now → IsBelow before.slots
     → Stepped before (Take h.id n) (passed_of (take n (queued_of (find before.slots h.id))) r) after → (IsErrOf r OutOfMemory → ⊥) → CarriesBy IsOutput m bound (h ∷ []) a before b after
 carries_by_passed m bound h a b before after n bytes r queue few w below p none =
@@ -294,7 +294,7 @@ carries_by_passed m bound h a b before after n bytes r queue few w below p none 
       };
     }
 
--- a connection that was shut, after a call that kept its flag
+-- the connection was shut, after a call that did not shut it
 pub shut_after : {P Q : Type 0} (a b c : Option Bool) → Stays a b → P ⊎ (Q → IsRaised b c) → P ⊎ (Q → IsRaised a c)
 shut_after a b c s (inl p) = inl p
 shut_after a b c s (inr f) = inr (λ q. stays_raised a b c s (f q))

@@ -19,7 +19,7 @@ use Rattle.socket_loop.specs.Past.{PastTurn, scene_after}
 abbrev FitsScene : Scene → Type 0
 FitsScene scene = Fits (links_of scene.held) scene.bound scene.host
 
--- the generation of the next id never falls
+-- the next generation never falls
 nexts : (slice n : ℕ) (a b : Scene) → AreTurns slice n a b → a.host.slots.next ≤ b.host.slots.next
 nexts slice zero a b e = (let same : b.host.slots.next ≡ a.host.slots.next = ap (λ (s : Scene). s.host.slots.next) e in omega arith)
 nexts slice (suc n) a b p =
@@ -28,7 +28,7 @@ nexts slice (suc n) a b p =
     let w : b.host.slots.next ≡ p.2.middle.host.slots.next = ap (λ (h : HostState). h.slots.next) p.2.wait.host in
     omega arith
 
--- more is made, or nothing is pending
+-- one more turn takes a slice off the load, or nothing is pending
 more_made : (slice n : ℕ) (s t u : SessionView) (b : Scene) (id : SessionId) (pending : Bool) → is_pending u ≡ pending → find b.host.slots id ≡ Some u → n * slice + load t ≤ load s → (is_pending u ≡ false) ⊎ (slice + load u ≤ load t) → (pending_of (find b.host.slots id) ≡ false) ⊎ IsNearer slice (suc n) s b id
 more_made slice n s t u b id pending e f p (inl none) = inl (ap pending_of f ∙ none)
 more_made slice n s t u b id false e f p (inr less) = inl (ap pending_of f ∙ e)
@@ -43,7 +43,7 @@ made_by : (slice n : ℕ) (s t : SessionView) (b : Scene) (id : SessionId) (foun
 made_by slice n s t b id None e p near = inl (ap pending_of e)
 made_by slice n s t b id (Some u) e p near = more_made slice n s t u b id (is_pending u) refl e p near
 
--- the generation of the next id, from before the last turns on
+-- the next generation never falls in the last turns
 nexts_last : (slice n more : ℕ) (a b : Scene) (turns : AreTurns slice n a b) → (before_last a more (past_of slice n a b turns)).host.slots.next ≤ b.host.slots.next
 nexts_last slice zero zero a b e = nexts slice zero a b e
 nexts_last slice (suc n) zero a b turns = omega arith
@@ -69,7 +69,7 @@ next_made slice n more a m b s id so_far last lt k =
       ]
     ]
 
--- what turns left, is where the next one begins
+-- the scene after the turns is the scene before the next
 nearer_after : (slice n more : ℕ) (a b : Scene) (turns : AreTurns slice n a b) (id : SessionId) (s : SessionView) → IsNearer slice more s (scene_after a (past_of slice n a b turns)) id → IsNearer slice more s b id
 nearer_after slice zero more a b e id s near = rw e near
 nearer_after slice (suc n) more a b turns id s near = near

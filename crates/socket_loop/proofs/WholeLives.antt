@@ -1,4 +1,4 @@
--- The whole life of a connection, turn after turn.
+-- The whole life of a connection, turn by turn.
 use Rattle.std.proofs.Common.{◌≡◌, ◌≢◌, ◌⊎◌, ℕ, zero, suc, ◌<◌, ◌≤◌, Bool, true, List, [], ◌∷◌, ◌++◌, Result, Ok, Err, IfErr, append_assoc, append-nil, Option, Some, None, refl, sym, ap, ◌∙◌, subst, arith, inl, inr}
 use Rattle.std.proofs.lemmas.Bool.{cases_eq}
 use Rattle.std.proofs.KnownBytes.{Appends-kept, Consumes-kept, Keeps-trans, Appends-nil, Consumes-nil}
@@ -39,7 +39,7 @@ use Rattle.socket_loop.proofs.Turns.{Stops}
 
 -- ---- numbers
 
--- one of these has the number, or none
+-- a link with the number, or none
 record Numbered (ls : List Link) (n : ℕ) : Type 0 where
   pub link : Link
   pub among : IsAmong ls link
@@ -108,7 +108,7 @@ life_start_held s l among f = inl (
       f,
 )
 
--- a connection that is served is accounted for
+-- a served connection is accounted for
 account_of : (a b : Scene) (n : ℕ) (l : Link) → l.number ≡ n → IsServed a b l → IsAccountedFor a b n
 account_of a b n l same s = subst (λ (x : ℕ). IsAccountedFor a b x) same (inr (l.id, s))
 
@@ -128,14 +128,14 @@ lives_start s fit = record {
 
 -- ---- a turn
 
--- the links that are left are among those that were met
+-- links left are among the links met
 still_apart : (met now : List Link) (n : ℕ) → ((l : Link) → IsAmong now l → IsAmong met l) → IsNotAmong met n → IsNotAmong now n
 still_apart met now n left p = apart_each now n (λ l m. each_apart met n l p (left l m))
 
 next_turned : (slice : ℕ) (moved : Bool) (b c : Scene) → IsTurn slice moved b c → b.host.slots.next ≤ c.host.slots.next
 next_turned slice moved b c t = next_rises b.host c.host t.host.steps t.host.chain
 
--- a link that was known is known still
+-- a link that fits ties with each link met
 ties_met : (slice : ℕ) (moved : Bool) (b c : Scene) (t : IsTurn slice moved b c) (k l : Link) → FitsOne (links_of b.held) b.bound b.host l → IsAmong (links_of b.held) k ⊎ Joins b.bound c.bound t.meets.accepted b.host.slots.next c.host.slots.next t.host.parts.admissions k → Ties k l
 ties_met slice moved b c t k l f (inl old) = tied_of (links_of b.held) l k f.tied old
 ties_met slice moved b c t k l f (inr new) =
@@ -182,14 +182,14 @@ why_on : (duty : Duty) (a b c : Scene) (n : ℕ) (read written more_read more_wr
 why_on duty a b c n read written more_read more_written move e f (inl was) = inl (reads_on a b c n move was)
 why_on duty a b c n read written more_read more_written move e f (inr w) = inr (rw (e, f, append-nil read, append-nil written) w)
 
--- it had ended before
+-- the connection had ended before
 ended_before : (duty : Duty) (a b c : Scene) (n : ℕ) (read lost written more_read more_lost more_written : List ℕ) → AllMove b.report c.report → more_read ≡ [] → more_written ≡ [] → lost ++ more_lost ≡ [] → HasEnded duty a b n read lost written → HasEnded duty a c n (read ++ more_read) (lost ++ more_lost) (written ++ more_written)
 ended_before duty a b c n read lost written more_read more_lost more_written move e f g (inl failed) = inl (raised_rises _ _ _ failed (move n).failed)
 ended_before duty a b c n read lost written more_read more_lost more_written move e f g (inr (inl some)) = absurd (some (some_lost lost more_lost g))
 ended_before duty a b c n read lost written more_read more_lost more_written move e f g (inr (inr k)) =
     inr (inr (record { none_lost = g; all = rw (e, f, append-nil read, append-nil written) k.all; why = why_on duty a b c n read written more_read more_written move e f k.why }))
 
--- bytes were lost, or it ended without
+-- bytes were lost, or the connection ended without loss
 ended_or : (duty : Duty) (a c : Scene) (n : ℕ) (read lost written : List ℕ) → (lost ≡ [] → HasEnded duty a c n read lost written) → HasEnded duty a c n read lost written
 ended_or duty a c n read lost written f = elim (nil_or lost) [ inl none ↦ f none | inr some ↦ inr (inl some) ]
 
@@ -199,7 +199,7 @@ ended_aside slice moved a b c t duty l x None e alone g none = ended_before duty
 ended_aside slice moved a b c t duty l x (Some s) e alone g none =
     absurd (not_none (find c.host.slots l.id) (stays_open b.host c.host l.id t.host.steps t.host.chain alone.kept (some_of (find b.host.slots l.id) s e)) none)
 
--- one that was not met is as it was
+-- a connection not met stays held or gone
 kept_aside : (slice : ℕ) (moved : Bool) (a b c : Scene) (t : IsTurn slice moved b c) (l : Link) → IsNotAmong t.meets.met l.number → FitsOne (links_of b.held) b.bound b.host l → IsHeldOrGone a b l → IsHeldOrGone a c l
 kept_aside slice moved a b c t l p f (inl held) = absurd (each_apart t.meets.met l.number l p (t.meets.stay l held) refl)
 kept_aside slice moved a b c t l p f (inr (inl marked)) = inr (inl marked)
@@ -230,7 +230,7 @@ accounted_below : (a b : Scene) (n : ℕ) → IsAccountedFor a b n → n < b.bou
 accounted_below a b n (inl w) = w.most
 accounted_below a b n (inr s) = (served_fits a b (record { number = n; id = s.0 }) s.1).number
 
--- one that was accepted in the turn, and rejected
+-- a connection accepted in the turn, and rejected
 rejected_now : (slice : ℕ) (moved : Bool) (a b c : Scene) (t : IsTurn slice moved b c) (n : ℕ) → a.bound ≤ b.bound → IsNotAmong t.meets.met n → IsRejected b.bound c.bound t.meets.accepted b.report c.report n → IsUntouched a b n ⊎ IsAccountedFor a b n → IsAccountedFor a c n
 rejected_now slice moved a b c t n le p w (inl u) =
     let v : b.bound ≤ n = w.least in
@@ -280,14 +280,14 @@ life_apart slice moved a b c t n le p q (inr h) = inr (accounted_apart slice mov
 
 -- ---- a connection that was met
 
--- the reads of a connection that was met have ended
+-- the reads of a connection met in the turn have ended
 reads_met : (slice : ℕ) (moved : Bool) (a b c : Scene) (t : IsTurn slice moved b c) (n : ℕ) → Lives a b → IsMarked reads_ended t.treats.marks n → ReadsEnded a c n
 reads_met slice moved a b c t n lives m = elim (t.treats.marked n m) [
   | inl was ↦ reads_on a b c n t.treats.all (lives.marked n was)
   | inr empty ↦ inr (move_emptied a.report b.report c.report n lives.all empty)
 ]
 
--- one that was met is held, or was removed
+-- a connection met in the turn is held, or was removed
 kept_met : (slice : ℕ) (moved : Bool) (a b c : Scene) (t : IsTurn slice moved b c) (l : Link) → Lives a b → l.number < c.bound → IsAmong (links_of c.held) l ⊎ (IsMarked was_shut b.held l.number ⊎ ((l.number < c.bound → IsRaised (b.report.is_shut l.number) (c.report.is_shut l.number)) × IsGone c.host l.id)) → IsHeldOrGone a c l
 kept_met slice moved a b c t l lives lt (inl held) = inl held
 kept_met slice moved a b c t l lives lt (inr (inl marked)) = inr (inl (lives.unmarked l.number marked))
@@ -361,7 +361,7 @@ opened_all slice moved b c t l new =
     let rest : List Step = works slice (pending_ids t.host.start) t.host.round.outcomes ++ (t.host.parts.outputs ++ t.host.parts.ends) in
     rw t.host.steps_are (opened_left l.id (t.host.parts.admissions ++ t.host.parts.inputs) rest (opened_left l.id t.host.parts.admissions t.host.parts.inputs new.opened))
 
--- it was opened before it was closed
+-- the session was opened before it was closed
 opened_earlier : (slice : ℕ) (moved : Bool) (b c : Scene) (t : IsTurn slice moved b c) (l : Link) → Joins b.bound c.bound t.meets.accepted b.host.slots.next c.host.slots.next t.host.parts.admissions l → (f : Finished t.treats.marks b.host t.host.steps c.host l) → is_opened l.id f.earlier ≡ true
 opened_earlier slice moved b c t l new f =
     let rest : List Step = works slice (pending_ids t.host.start) t.host.round.outcomes ++ (t.host.parts.outputs ++ t.host.parts.ends) in
@@ -441,12 +441,12 @@ lives_turn slice moved a b c lives t =
       held = λ l among. life_met slice moved a b c t l lives (t.treats.left l among) (t.meets.are l (t.treats.left l among)) (lives.each l.number);
     }
 
--- a connection of this number is one of these
+-- a connection of this number was accepted
 abbrev pub IsAcceptedIn : List Accepted → ℕ → Type 0
 IsAcceptedIn items number =
     (outcome : Outcome) × IsAmong items (record { number = number; outcome = outcome })
 
--- one that was accounted for is so still, and one that was accepted in the turn is so
+-- an accounted connection stays accounted for, and each accepted in the turn becomes so
 accounted_turn : (slice : ℕ) (moved : Bool) (a b c : Scene) (t : IsTurn slice moved b c) (n : ℕ) → Lives a b → IsAccountedFor a b n ⊎ IsAcceptedIn t.meets.accepted n → IsAccountedFor a c n
 accounted_turn slice moved a b c t n lives h = elim (find_number t.meets.met n) [
   | inl apart ↦ elim h [
@@ -557,7 +557,7 @@ accounted_turns slice (suc n) a b fit p number h =
 pub done_by : (slice n : ℕ) (a b : Scene) → Fits (links_of a.held) a.bound a.host → (turns : AreTurns slice n a b) → AnswersInTime slice n a (past_of slice n a b turns) → IsDone slice n a b
 done_by slice n a b fit turns time = record { turns = turns; in_time = time; accounted = accounted_turns slice n a b fit turns }
 
--- each connection is answered in time, however many turns are taken
+-- pending sessions are answered in time, for any number of turns
 abbrev pub AnswersFrom : ℕ → Scene → Type 0
 AnswersFrom slice a = (n : ℕ) (b : Scene) (turns : AreTurns slice n a b) → AnswersInTime slice n a (past_of slice n a b turns)
 

@@ -6,7 +6,7 @@ on_ok : {T E : Type 0} (r : Result T E) {P Q : Type 0} → (P → Q) → OnOk r 
 on_ok (Ok value) f p = f p
 on_ok (Err fault) f p = tt
 
--- one more text behind what was there, and a text with a number
+-- one more text, and a text with a number, behind the text so far
 one : {start old new : List ℕ} (text : List ℕ) → old ≡ start → new ≡ old ++ text → new ≡ start ++ text
 one text was e = e ∙ ap (λ (x : List ℕ). x ++ text) was
 

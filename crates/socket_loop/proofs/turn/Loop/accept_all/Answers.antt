@@ -28,7 +28,7 @@ returns-in_default g c = record {
   };
 }
 
--- there is no place
+-- there is no room
 pub returns-then-len-gt-SESSIONS_MAX : goal.returns-then-len-gt-SESSIONS_MAX
 returns-then-len-gt-SESSIONS_MAX g c = record {
   slice = search rules;

@@ -15,7 +15,7 @@ use Rattle.socket_loop.proofs.Calls.{asks_held, refused_admitted}
 use Rattle.socket_loop.proofs.turn.Loop.admit.Goals as goal
 use Rattle.socket_loop.specs.Accepting.{new_connection, place_for}
 
--- refused for another cause than that the host was full
+-- an `Open` refused for want of memory
 other_full : (fault : HostFault) → (fault ≡ Full → ⊥) → 0 ≡ full_of (Refused fault)
 other_full Full not = absurd (not refl)
 other_full OutOfMemory not = refl
