@@ -1,4 +1,4 @@
-//! A connection that is held.
+//! A connection of a wire, with the bytes it keeps.
 
 ghost use Rattle.std.specs.Prelude.{◌≡◌, ◌≢◌, ◌<◌, ◌⊎◌, ◌≤◌, [], true, length, Some, Ok, Err, IfOk};
 ghost use Rattle.std.specs.Io.KnownBytes.{Keeps};
@@ -15,8 +15,8 @@ use crate::listener::{ByteStream, StreamFault};
 use std::alloc::Allocator;
 use transport::{Got, WireFault};
 
-/// Each number has one of so many places: its remainder. Numbers are chosen so that the places of open
-/// connections differ, and a connection is found without a search.
+/// Places of numbers: each number has the place of its remainder. Open connections get numbers with
+/// different places, which finds each without a search.
 pub const PLACES: u64 = 1_048_576;
 
 /// A connection, and what the last calls and looks showed of it.
@@ -24,16 +24,18 @@ pub const PLACES: u64 = 1_048_576;
 pub struct BufferedStream<S: Drop, A: Allocator> {
     pub number: u64,
     pub stream: S,
-    // What was read and is not given yet, and where the bytes lie that were given last.
+    // The bytes read and not given yet, and the bytes lent.
     pub buffer: ReadBuffer<A>,
-    // The last read of the stream found something, or a look has named it since.
+    // The last read of the stream did not return `WouldBlock`, or a look has named the stream
+    // since.
     pub readable: bool,
-    // The same of the last write.
+    // The last write to the stream did not return `WouldBlock`, or a look has named the stream
+    // since.
     pub writable: bool,
 }
 
 impl<S: ByteStream, A: Allocator + Copy> BufferedStream<S, A> {
-    /// Nothing is kept.
+    /// A connection without kept bytes, whose stream may be ready.
     pub fn new(alloc: A, number: u64, stream: S) -> BufferedStream<S, A>
         ensures number { result.number ≡ number }
         ensures stream { result.stream ≡ stream }
@@ -49,9 +51,10 @@ impl<S: ByteStream, A: Allocator + Copy> BufferedStream<S, A> {
         }
     }
 
-    /// Gives the first line of what is kept, or so many bytes of it, or all where no line has ended.
-    /// Where nothing is kept it reads the stream once before, and keeps what came, for which it makes
-    /// room.
+    /// Gives the first line kept, or all bytes if no line has ended, but at most `most` bytes. If
+    /// none are kept it reads the stream once first, into room for `most` bytes. `Nothing` if
+    /// `most` is 0, or the stream would block, was interrupted or sleeps; `Ended` at its end;
+    /// `Device` if it failed; `OutOfMemory` without room.
     pub fn read(&mut self, spare: &mut Spare<A>, most: usize) -> Result<Got, WireFault>
         ensures number { self.new.number ≡ self.old.number }
         ensures within { IsWithin result most (lent_from spare.new self.new.buffer) }
@@ -91,7 +94,8 @@ impl<S: ByteStream, A: Allocator + Copy> BufferedStream<S, A> {
         }
     }
 
-    /// Writes once.
+    /// Writes once, and returns how many bytes the stream took; 0 if it would block, was
+    /// interrupted or sleeps. `Device` if it failed.
     pub fn write(&mut self, buf: &[u8]) -> Result<usize, WireFault>
         ensures number { self.new.number ≡ self.old.number }
         ensures within { IfOk result (λ n. n ≤ length buf.now) }

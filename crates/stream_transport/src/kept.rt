@@ -1,4 +1,4 @@
-//! What was read from a connection and is not given yet, and what is lent.
+//! The bytes read from a connection and not given yet, and the bytes lent to the caller.
 
 ghost use Rattle.std.specs.Prelude.{◌≡◌, ◌≢◌, ◌<◌, ◌≤◌, [], ◌++◌, length, take, nat_eq, vec_len, OnErr, OnOk, true};
 ghost use Rattle.usi_lines.specs.OneLine.{one_line, IsOneLine};
@@ -9,7 +9,7 @@ use std::marker::Model;
 use std::mem::swap;
 use usi_lines::cut_line;
 
-/// Room for the next read, and the place in it of the bytes that the last one gave, if they lie here.
+/// Room for the next read. `start..end` are the bytes given last, if they lie here.
 #[derive(Drop)]
 pub struct Spare<A: Allocator> {
     pub bytes: Vec<u8, A>,
@@ -27,7 +27,7 @@ impl<A: Allocator> Spare<A> {
         }
     }
 
-    /// Makes room for so many bytes.
+    /// Grows to room for `most` bytes. Out of memory leaves the room as it was.
     pub fn reserve(&mut self, most: usize) -> Result<(), AllocError>
         ensures ok { OnOk result (most ≤ vec_len self.new.bytes) }
         ensures grown { vec_len self.old.bytes < most
@@ -41,7 +41,7 @@ impl<A: Allocator> Spare<A> {
         Ok(())
     }
 
-    /// The bytes that lie here.
+    /// The bytes in `start..end`.
     pub fn lent(&self) -> &[u8]
         ensures { result.now ≡ lent_by self.now }
     {
@@ -53,14 +53,14 @@ impl<A: Allocator> Spare<A> {
     }
 }
 
-/// Bytes that were read and are not given yet. It has room only while there are some, and lends from it
-/// what was given last.
+/// Bytes read from a stream and not given yet. Only a buffer that keeps some owns memory; it lends
+/// the bytes given last from there.
 #[derive(Drop)]
 pub struct ReadBuffer<A: Allocator> {
     bytes: Vec<u8, A>,
-    // What was given last begins here,
+    // Start of the bytes given last.
     given: usize,
-    // and what is kept here.
+    // Start of the bytes kept.
     start: usize,
     end: usize,
 }
@@ -79,7 +79,7 @@ impl<A: Allocator> Model for ReadBuffer<A> {
 }
 
 impl<A: Allocator> ReadBuffer<A> {
-    /// Nothing, and no room.
+    /// An empty buffer without memory.
     pub fn new(alloc: A) -> ReadBuffer<A>
         ensures { result ≡ record { lent = []; kept = [] } }
     {
@@ -91,7 +91,7 @@ impl<A: Allocator> ReadBuffer<A> {
         }
     }
 
-    /// Keeps the first bytes of the spare room, which it takes, so many of them, where none are kept.
+    /// For an empty buffer: keeps the first `n` bytes of the spare room, whose memory it takes.
     pub fn fill(&mut self, spare: &mut Spare<A>, n: usize)
         requires some { 1 ≤ n }
         requires fits { n ≤ vec_len spare.old.bytes }
@@ -103,7 +103,7 @@ impl<A: Allocator> ReadBuffer<A> {
         self.end = n;
     }
 
-    /// All of them.
+    /// The bytes kept.
     pub fn as_slice(&self) -> &[u8]
         ensures { result.now ≡ self.now.kept }
     {
@@ -115,7 +115,7 @@ impl<A: Allocator> ReadBuffer<A> {
             .1
     }
 
-    /// Whether there are none.
+    /// Whether no byte is kept.
     pub fn is_empty(&self) -> bool
         ensures test { result ≡ nat_eq (length self.now.kept) 0 }
         ensures none { result ≡ true → self.now.kept ≡ [] }
@@ -123,7 +123,7 @@ impl<A: Allocator> ReadBuffer<A> {
         self.start == self.end
     }
 
-    /// What was given last, where this is the spare room.
+    /// The bytes given last: in this buffer while it keeps more, otherwise in the spare room.
     pub fn lent<'a>(&'a self, spare: &'a Spare<A>) -> &'a [u8]
         ensures { result.now ≡ lent_from spare.now self.now }
     {
@@ -138,8 +138,8 @@ impl<A: Allocator> ReadBuffer<A> {
             .1
     }
 
-    /// Gives the first line with its LF, or all bytes where no line has ended; of what is longer, so many
-    /// bytes. With the last byte its room is the spare one.
+    /// Gives the first line with its LF, or all bytes if none has ended, but at most `most` bytes.
+    /// Giving the last byte turns the buffer's memory into the spare room.
     pub fn give_line(&mut self, spare: &mut Spare<A>, most: usize)
         ensures given { lent_from spare.new self.new ≡ take most (one_line self.old.kept) }
         ensures line { IsOneLine (lent_from spare.new self.new) }

@@ -1,8 +1,8 @@
-//! What follows of the definitions.
+//! What follows from the definitions.
 
 ghost use Rattle.stream_transport.specs.Numbers.{AreNumbers};
 
-/// The numbers of places, of those who linger and of waits are these.
+/// The numbers of places, lingering streams, waits, events and tokens.
 pub fn numbers()
     ensures { AreNumbers }
 {}

@@ -1,4 +1,4 @@
-//! Streams that are shut and whose peers have not ended yet.
+//! Streams that were shut and whose peers have not ended yet.
 
 ghost use Rattle.std.specs.Prelude.{◌≡◌, ◌≢◌, ◌≤◌, ◌+◌, ◌-◌, [], ℕ, length, filter, is_some, true, IfOk, vec_capacity};
 ghost use Rattle.stream_transport.specs.Lingering.{Leave, StayAtMost, are_drained, has_looks, with_one};
@@ -10,38 +10,38 @@ use std::alloc::{AllocError, Allocator};
 use std::marker::Model;
 use std::time::Duration;
 
-/// How many linger at most; the one that was shut first leaves for one more.
+/// The most streams that linger; one more makes the oldest leave.
 pub const LINGERING_MAX: usize = 256;
 
-/// For how many looks one lingers at most.
+/// The most looks for which a stream lingers.
 pub const LOOKS_MAX: u64 = 4096;
 
-/// For how many looks a wait counts that found nobody.
+/// The looks counted for a wait that found nothing.
 pub const IDLE_LOOKS: u64 = 64;
 
-/// How many milliseconds a wait lasts at most while somebody lingers.
+/// Longest wait in milliseconds while streams linger.
 pub const IDLE_PATIENCE: u64 = 50;
 
-/// The same where not all that was sent is read.
+/// Longest wait in milliseconds while a lingering stream may have unread bytes.
 pub const DRAINING_PATIENCE: u64 = 1;
 
-/// How often a stream is read at a look.
+/// The most reads of a lingering stream at one look.
 pub const READS: usize = 4;
 
-/// A stream that is shut, and for how many looks it stays.
+/// A stream that was shut for writing, and its remaining looks.
 #[derive(Drop)]
 pub struct LingeringStream<S: Drop> {
     pub number: u64,
     pub stream: S,
-    /// The last read found something, or a look has named it since.
+    /// The last reads may have left bytes, or a look has named the stream since.
     pub readable: bool,
-    /// For how many looks it stays; it leaves with 0.
+    /// The looks for which the stream stays; at 0 it leaves.
     pub looks: u64,
 }
 
-/// The streams of connections that were shut, the oldest first. What their peers still send is read and
-/// dropped, since a close with bytes unread resets the connection, and the peer may lose what it was
-/// written. A stream leaves when its peer ends, when a read of it fails, or after `LOOKS_MAX` looks.
+/// The streams of shut connections, the oldest first. Bytes that peers still send are read and
+/// dropped: closing with unread bytes resets the connection, and the peer may lose what it was
+/// written. A stream leaves when its peer ends, when a read fails, or after `LOOKS_MAX` looks.
 #[derive(Drop)]
 pub struct Lingering<S: Drop, A: Allocator> {
     streams: Vec<LingeringStream<S>, A>,
@@ -59,7 +59,7 @@ impl<S: Drop, A: Allocator> Model for Lingering<S, A> {
     ghost invariant = { λ lingering. IsWithin lingering.streams };
 }
 
-/// Whether a look has named this number.
+/// Whether a look has named the stream of this number.
 fn is_named(ready: &[Ready], number: u64) -> bool {
     for who in ready {
         if *who == Ready::Stream(number) {
@@ -69,8 +69,8 @@ fn is_named(ready: &[Ready], number: u64) -> bool {
     false
 }
 
-/// Reads and drops what a peer has sent, at most `READS` times. `None` where it has ended or the stream
-/// failed, and else whether it may have sent more.
+/// Reads and drops what the peer sent, in at most `READS` reads. `None` if the peer has ended or
+/// the stream failed; otherwise whether it may have sent more.
 fn drain<S: ByteStream>(stream: &mut S) -> Option<bool>
     ensures shut { S.is_shut stream.new ≡ S.is_shut stream.old }
     ensures reads { IsDrained (S.calls stream.old) (S.calls stream.new) result }
@@ -89,7 +89,7 @@ fn drain<S: ByteStream>(stream: &mut S) -> Option<bool>
 }
 
 impl<S: ByteStream> LingeringStream<S> {
-    /// So many looks have passed, the last of which found these.
+    /// Counts `looks` looks, and drains the stream if the last one named it or bytes may be left.
     fn pass(&mut self, ready: &[Ready], looks: u64)
         ensures looks { self.new.looks ≤ self.old.looks - looks }
         ensures shut { S.is_shut self.new.stream ≡ S.is_shut self.old.stream }
@@ -106,7 +106,7 @@ impl<S: ByteStream> LingeringStream<S> {
     }
 }
 
-/// So many looks have passed for each of them.
+/// Counts `looks` looks for each stream.
 fn pass_all<S: ByteStream, A: Allocator>(
     streams: &mut Vec<LingeringStream<S>, A>,
     ready: &[Ready],
@@ -122,7 +122,7 @@ fn pass_all<S: ByteStream, A: Allocator>(
     }
 }
 
-/// Drops those whose looks are over.
+/// Drops the streams without looks left.
 fn retain_lingering<S: ByteStream, A: Allocator>(streams: &mut Vec<LingeringStream<S>, A>)
     ensures left { streams.new.items ≡ filter has_looks streams.old.items }
     ensures fewer { length streams.new.items ≤ length streams.old.items }
@@ -131,7 +131,7 @@ fn retain_lingering<S: ByteStream, A: Allocator>(streams: &mut Vec<LingeringStre
     streams.retain(|lingering| lingering.looks > 0);
 }
 
-/// Whether all that these have sent is read, as far as was seen.
+/// Whether no stream is known to have unread bytes.
 fn are_drained<S: ByteStream>(streams: &[LingeringStream<S>]) -> bool
     ensures { result ≡ are_drained streams.now }
 {
@@ -144,7 +144,7 @@ fn are_drained<S: ByteStream>(streams: &[LingeringStream<S>]) -> bool
 }
 
 impl<S: ByteStream, A: Allocator + Copy> Lingering<S, A> {
-    /// Nobody lingers. There is room for all.
+    /// No stream, and room for `LINGERING_MAX`. Fails if out of memory.
     pub fn new(alloc: A) -> Result<Lingering<S, A>, AllocError>
         ensures { IfOk result (λ lingering. lingering ≡ []) }
     {
@@ -152,7 +152,7 @@ impl<S: ByteStream, A: Allocator + Copy> Lingering<S, A> {
         Ok(Lingering { streams })
     }
 
-    /// One more lingers, for the longest. Where all places are taken the oldest one leaves.
+    /// Adds a stream; if `LINGERING_MAX` linger already, the oldest leaves.
     fn push(&mut self, lingering: LingeringStream<S>)
         requires { lingering.looks ≤ LOOKS_MAX }
         ensures added { self.new ≡ with_one self.old lingering }
@@ -165,7 +165,8 @@ impl<S: ByteStream, A: Allocator + Copy> Lingering<S, A> {
         let _room = self.streams.push(lingering);
     }
 
-    /// The stream of a connection that was shut lingers, unless its peer has ended.
+    /// Drains the stream of a shut connection, which then lingers for `LOOKS_MAX` looks, unless its
+    /// peer has ended or it failed.
     pub fn linger(&mut self, number: u64, stream: S)
         ensures few { length self.new ≤ LINGERING_MAX }
         ensures within { StayAtMost LOOKS_MAX self.new }
@@ -185,7 +186,7 @@ impl<S: ByteStream, A: Allocator + Copy> Lingering<S, A> {
         }
     }
 
-    /// So many looks have passed, the last of which found these.
+    /// Counts `looks` looks, drains the streams that may have bytes, and drops those that leave.
     pub fn pass(&mut self, ready: &[Ready], looks: u64)
         ensures leaves { Leave looks self.old self.new }
         ensures shut { AreShut S.is_shut self.old → AreShut S.is_shut self.new }
@@ -197,7 +198,8 @@ impl<S: ByteStream, A: Allocator + Copy> Lingering<S, A> {
         retain_lingering(&mut self.streams);
     }
 
-    /// How long a wait lasts at most: while somebody lingers, not for long.
+    /// The longest duration of a wait: as given if no stream lingers, otherwise `IDLE_PATIENCE` or
+    /// `DRAINING_PATIENCE`.
     pub fn patience(&self, patience: Option<Duration>) -> Option<Duration>
         ensures { most_of result ≡ lingering_for self.now (most_of patience) }
     {
@@ -211,7 +213,8 @@ impl<S: ByteStream, A: Allocator + Copy> Lingering<S, A> {
         }))
     }
 
-    /// For how many looks a wait counts that found these.
+    /// The looks to count for a wait: `IDLE_LOOKS` if it found nothing and nothing is known to be
+    /// unread, otherwise 1.
     pub fn looks_of_wait(&self, ready: &[Ready]) -> u64
         ensures { 1 ≤ result }
     {
@@ -222,7 +225,8 @@ impl<S: ByteStream, A: Allocator + Copy> Lingering<S, A> {
         }
     }
 
-    /// Nobody lingers any more. Whether somebody did.
+    /// Drops all streams, and returns whether there were any. Frees descriptors when an accept
+    /// failed.
     pub fn release(&mut self) -> bool
         ensures gone { self.new ≡ [] }
         ensures had { result ≡ true → self.old ≢ [] }

@@ -1,4 +1,4 @@
-//! What a wire is made over: streams, and the listener that gives them.
+//! What a wire is made over: a listener, and the streams it gives.
 
 ghost use Rattle.std.specs.Prelude.{◌≡◌, ℕ, Bool, [], ◌∷◌, length, is_some, slice_get, IfOk, OnErr, Option, None, List};
 ghost use Rattle.std.specs.Io.{ReadsAtMost, WritesAtMost};
@@ -14,55 +14,57 @@ ghost use Rattle.stream_transport.specs.declared.listener.StreamCall.TheVariants
 
 use std::time::Duration;
 
-/// Why a call of a stream or of a listener gave nothing.
+/// Why a call of a stream or listener gave nothing.
 #[derive(Clone, Copy, Debug, PartialEq, Eq)]
 pub enum StreamFault {
-    /// It would have to wait.
+    /// The call would block.
     WouldBlock,
-    /// A signal interrupted it, and it may be made again.
+    /// A signal interrupted the call, which may be made again.
     Interrupted,
-    /// It failed.
+    /// The call failed.
     Failed,
 }
 
-/// A call of a stream, with its answer.
+/// A call of a stream, with its result.
 #[derive(Clone, Copy)]
 pub enum StreamCall {
-    /// A read into so much room.
+    /// A read into a buffer of this many bytes.
     Receive(usize, Result<usize, StreamFault>),
-    /// A write that offered so many bytes.
+    /// A write that offered this many bytes.
     Send(usize, Result<usize, StreamFault>),
 }
 
-/// A call of a listener, with its answer.
+/// A call of a listener, with its result.
 #[derive(Clone, Copy)]
 pub enum ListenerCall {
-    /// Who waits first was asked for.
+    /// An accept of the next waiting client.
     Accept(Result<(), StreamFault>),
-    /// It was asked who may be ready now.
+    /// A look at what is ready now.
     Look(Result<(), StreamFault>),
-    /// The same, and waited for: no longer than for some time where the first field is true.
+    /// A wait until something is ready, bounded in time if the first field is true.
     Wait(bool, Result<(), StreamFault>),
 }
 
-/// A stream both ways, where a read leaves what was written, and a write what is to be read.
+/// A stream of bytes both ways. Reads do not touch the bytes written, nor writes the bytes to be
+/// read.
 pub trait ByteStream: Drop {
-    /// The bytes that its reads will give from here on. It may not tell.
+    /// The bytes that reads will give from here on; `None` if the stream does not tell.
     ghost unread: { Self → Option (List ℕ) } = { λ _. None };
 
-    /// The bytes that its writes took. It may not tell.
+    /// The bytes that writes took so far; `None` if the stream does not tell.
     ghost written: { Self → Option (List ℕ) } = { λ _. None };
 
-    /// The bytes that its reads gave. It may not tell.
+    /// The bytes that reads gave so far; `None` if the stream does not tell.
     ghost given: { Self → Option (List ℕ) } = { λ _. None };
 
-    /// The calls of `receive` and `send` that it was asked for, with their answers. It may tell none.
+    /// The calls of `receive` and `send` so far, with their results; `None` if the stream does not
+    /// tell.
     ghost calls: { Self → Option (List StreamCall) } = { λ _. None };
 
-    /// Its writing side was shut. It may not tell.
+    /// Whether the writing side was shut; `None` if the stream does not tell.
     ghost is_shut: { Self → Option Bool } = { λ _. None };
 
-    /// A `read` of the stream.
+    /// Reads once into `buf`, without waiting. 0 bytes mean the end, if `buf` has room.
     fn receive(&mut self, buf: &mut [u8]) -> Result<usize, StreamFault>
         ensures bound { ReadsAtMost result buf.new }
         ensures bytes { Receives unread self.old self.new result buf.new }
@@ -72,7 +74,7 @@ pub trait ByteStream: Drop {
             (Receive (length buf.old) result ∷ []) }
         ensures shut { is_shut self.new ≡ is_shut self.old };
 
-    /// A `write` of the stream.
+    /// Writes a prefix of `buf` once, without waiting, and returns its length.
     fn send(&mut self, buf: &[u8]) -> Result<usize, StreamFault>
         ensures bound { WritesAtMost result buf.now }
         ensures bytes { Sends written self.old self.new result buf.now }
@@ -83,32 +85,32 @@ pub trait ByteStream: Drop {
         ensures shut { is_shut self.new ≡ is_shut self.old };
 }
 
-/// Who may be ready.
+/// What a look or a wait found.
 #[derive(Clone, Copy, Debug, PartialEq, Eq)]
 pub enum Ready {
-    /// Somebody may wait to be accepted.
+    /// A client may wait to be accepted.
     Listener,
-    /// The stream of this number may give bytes or take some.
+    /// The stream of this number may give or take bytes.
     Stream(u64),
 }
 
-/// Streams that come one after the other, each under a number that its taker chooses. Only `wait` waits.
+/// A source of streams, each under a number that the caller chooses. Only `wait` waits.
 pub trait Listener: Drop {
     type Stream: ByteStream;
 
-    /// What it tells of the numbers whose streams are not handed out: of those to come, and of those
-    /// that it has back. It may tell nothing.
+    /// The report on numbers whose streams are not handed out: those to come, and those taken back.
+    /// A listener may report nothing.
     ghost told: { Self → Report } = { λ _. nothing_reported };
 
-    /// The calls of `accept`, `look` and `wait` that it was asked for, with their answers. It may tell
-    /// none.
+    /// The calls of `accept`, `look` and `wait` so far, with their results; `None` if the listener
+    /// does not tell.
     ghost asked: { Self → Option (List ListenerCall) } = { λ _. None };
 
-    /// Whom the last look or wait has found: nobody, where it failed.
+    /// What the last look or wait found; nothing if it failed.
     ghost named: { Self → List Ready };
 
-    /// The stream of who waits first, which is named by this number from then on; `WouldBlock` where
-    /// nobody waits.
+    /// The stream of the next waiting client; looks and waits name it by `number` from now on.
+    /// `WouldBlock` if no client waits.
     fn accept(&mut self, number: u64) -> Result<Self::Stream, StreamFault>
         ensures given { HandsOut Self.Stream.unread Self.Stream.written
             (told self.old) number result }
@@ -117,38 +119,38 @@ pub trait Listener: Drop {
         ensures asked { Asks (asked self.old) (asked self.new) (Accept (answer_of result) ∷ []) }
         ensures named { named self.new ≡ named self.old };
 
-    /// Looks who may be ready now.
+    /// Finds what is ready now. An error leaves nothing found.
     fn look(&mut self) -> Result<(), StreamFault>
         ensures unchanged { KeepsAll (told self.old) (told self.new) }
         ensures nobody { OnErr result (named self.new ≡ []) }
         ensures asked { Asks (asked self.old) (asked self.new) (Look result ∷ []) };
 
-    /// Waits until somebody may be ready, at most so long.
+    /// Waits until something may be ready, at most `patience` long. An error leaves nothing found.
     fn wait(&mut self, patience: Option<Duration>) -> Result<(), StreamFault>
         ensures unchanged { KeepsAll (told self.old) (told self.new) }
         ensures nobody { OnErr result (named self.new ≡ []) }
         ensures asked { Asks (asked self.old) (asked self.new)
             (Wait (is_some patience) result ∷ []) };
 
-    /// How many the last look or wait found.
+    /// How many listeners and streams the last look or wait found.
     fn found(&self) -> usize
         ensures { result ≡ length (named self.now) };
 
-    /// One of those.
+    /// The one at this place of what the last look or wait found.
     fn ready(&self, place: usize) -> Option<Ready>
         ensures { result ≡ slice_get (named self.now) place };
 
-    /// A read or a write of this number has failed.
+    /// Records that a read or a write of this number failed.
     fn fail(&mut self, number: u64)
         ensures failed { IsToldFailed (told self.old) (told self.new) number }
         ensures asked { asked self.new ≡ asked self.old };
 
-    /// The connection of this number is shut.
+    /// Records that the connection of this number was shut.
     fn shut(&mut self, number: u64)
         ensures shut { IsToldShut (told self.old) (told self.new) number }
         ensures asked { asked self.new ≡ asked self.old };
 
-    /// Takes the stream of a number back, with the bytes that were read from it and are not given.
+    /// Takes back the stream of a number, with the bytes read from it and not given.
     fn take_back(&mut self, number: u64, stream: Self::Stream, kept: &[u8])
         ensures back { HasBack Self.Stream.unread Self.Stream.written
             (told self.new) number kept.now stream }

@@ -12,7 +12,7 @@ use crate::listener::ByteStream;
 use std::alloc::Allocator;
 use transport::WireFault;
 
-/// The place of a number.
+/// The place of a number: its remainder.
 fn place_of(number: u64) -> usize
     ensures { result ≡ number % PLACES }
 {
@@ -37,8 +37,7 @@ fn is_held<S: ByteStream, A: Allocator + Copy>(
     }
 }
 
-/// Whether a connection is held under this number of which nothing is kept, and whose stream has said
-/// that it has nothing.
+/// Whether the connection of this number keeps no byte, and its stream last said that it has none.
 pub fn is_quiet<S: ByteStream, A: Allocator + Copy>(
     places: &[Option<BufferedStream<S, A>>],
     number: u64,
@@ -53,7 +52,7 @@ pub fn is_quiet<S: ByteStream, A: Allocator + Copy>(
     }
 }
 
-/// What the connection of this number gave last, where this is the spare room.
+/// The bytes that the connection of this number gave last, given the spare room.
 pub fn lent_under<'a, S: ByteStream, A: Allocator + Copy>(
     places: &'a [Option<BufferedStream<S, A>>],
     spare: &'a Spare<A>,
@@ -72,7 +71,7 @@ pub fn lent_under<'a, S: ByteStream, A: Allocator + Copy>(
     }
 }
 
-/// Takes the connection of this number out of its place.
+/// Takes the connection of this number out of its place, if it is held.
 pub fn remove<S: ByteStream, A: Allocator + Copy>(
     places: &mut Vec<Option<BufferedStream<S, A>>, A>,
     number: u64,
@@ -90,7 +89,7 @@ pub fn remove<S: ByteStream, A: Allocator + Copy>(
     places[place_of(number)].take()
 }
 
-/// Puts a connection into its place, which is free.
+/// Puts a connection into its place, which must be free.
 pub fn insert<S: ByteStream, A: Allocator + Copy>(
     places: &mut Vec<Option<BufferedStream<S, A>>, A>,
     connection: BufferedStream<S, A>,
@@ -107,7 +106,7 @@ pub fn insert<S: ByteStream, A: Allocator + Copy>(
     places[place] = Some(connection);
 }
 
-/// The stream of this number may be ready.
+/// Lets the next read and the next write of this number ask the stream.
 pub fn mark_ready<S: ByteStream, A: Allocator + Copy>(
     places: &mut Vec<Option<BufferedStream<S, A>>, A>,
     number: u64,
@@ -123,7 +122,7 @@ pub fn mark_ready<S: ByteStream, A: Allocator + Copy>(
     }
 }
 
-/// The first place that is free, or one more if all are taken.
+/// The first free place, or a new one at the end if all are taken. Fails only if out of memory.
 pub fn free_place<S: ByteStream, A: Allocator + Copy>(
     places: &mut Vec<Option<BufferedStream<S, A>>, A>,
 ) -> Result<usize, WireFault>
@@ -143,7 +142,7 @@ pub fn free_place<S: ByteStream, A: Allocator + Copy>(
     Ok(places.len() - 1)
 }
 
-/// The least number from this one on that has this place.
+/// The least number with this place, from `next` on.
 pub fn number_at(next: u64, place: u64) -> u64
     requires left { next ≤ 2 ^ 64 - 1 - PLACES }
     requires place { place < PLACES }

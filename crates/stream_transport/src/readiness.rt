@@ -1,4 +1,4 @@
-//! Who may be ready, and how long the next wait may last.
+//! What may be ready, and how long the next wait may last.
 
 ghost use Rattle.std.specs.Prelude.{◌≡◌, true, is_some, Some};
 ghost use Rattle.transport.specs.declared.wire.Got.{Got};
@@ -14,23 +14,23 @@ use std::alloc::Allocator;
 use std::time::Duration;
 use transport::{Got, WireFault};
 
-/// After so many milliseconds a call is made again that failed or was interrupted, where nothing may
-/// say when.
+/// Milliseconds until a call that failed or was interrupted is made again, if no event may announce
+/// that it would succeed.
 const PATIENCE: u64 = 500;
 
 /// What the last calls showed of a wire.
 #[derive(Clone, Copy)]
 pub struct Readiness {
-    /// The last accept found somebody or failed, or a look has named the listener since.
+    /// The last accept found a connection or failed, or a look has named the listener since.
     pub may_accept: bool,
-    /// A read has left something to be given, and no wait has returned at once since.
+    /// A read kept bytes for the next read, and no wait has returned at once since.
     pub has_buffered: bool,
-    /// A call failed or was interrupted, and nothing may say when to make it again.
+    /// A call failed or was interrupted, and no event may say when to make it again.
     pub needs_timeout: bool,
 }
 
 impl Readiness {
-    /// Notes what was found where somebody might wait.
+    /// Records the result of an accept that asked the listener.
     pub fn note_accept(&mut self, accepted: &Result<Option<u64>, WireFault>)
         ensures { self.new ≡ after_accept self.old accepted.now }
     {
@@ -41,7 +41,8 @@ impl Readiness {
         }
     }
 
-    /// Notes what a read of this connection found, and what is left.
+    /// Records whether a read left bytes kept, and whether it has to be made again: it gave
+    /// nothing, though the stream did not return `WouldBlock`.
     pub fn note_read<S: ByteStream, A: Allocator + Copy>(
         &mut self,
         connection: &BufferedStream<S, A>,
@@ -54,7 +55,8 @@ impl Readiness {
         self.needs_timeout = self.needs_timeout | (connection.readable & found_nothing);
     }
 
-    /// Notes whether a write to this connection found room.
+    /// Records whether a write has to be made again: it took nothing, though the stream did not
+    /// return `WouldBlock`.
     pub fn note_write<S: ByteStream, A: Allocator + Copy>(
         &mut self,
         connection: &BufferedStream<S, A>,
@@ -67,7 +69,8 @@ impl Readiness {
     }
 }
 
-/// How long a wait lasts at most: for a while, where nothing may say when somebody is ready.
+/// The longest duration of a wait: bounded if a call has to be made again without an event,
+/// otherwise `None`.
 pub fn patience_for(needs_timeout: bool) -> Option<Duration>
     ensures { is_some result ≡ needs_timeout }
 {
@@ -78,7 +81,7 @@ pub fn patience_for(needs_timeout: bool) -> Option<Duration>
     }
 }
 
-/// Remembers one who may be ready.
+/// Marks one listener or stream as possibly ready.
 fn mark_one_ready<S: ByteStream, A: Allocator + Copy>(
     may_accept: &mut bool,
     places: &mut Vec<Option<BufferedStream<S, A>>, A>,
@@ -97,7 +100,7 @@ fn mark_one_ready<S: ByteStream, A: Allocator + Copy>(
     }
 }
 
-/// Remembers whom the last look or wait has found.
+/// Marks all that the last look or wait named as possibly ready.
 pub fn mark_all_ready<L: Listener, A: Allocator + Copy>(
     listener: &L,
     may_accept: &mut bool,

@@ -1,7 +1,7 @@
-//! The numbers by which a poll names who is no connection. Those of connections are below them.
+//! The poll tokens that name no connection. Connections have lower numbers.
 
-/// The listener.
+/// The listener of the wire.
 pub const LISTENER: u64 = u64::MAX;
 
-/// A listener that is watched beside it.
+/// A listener watched beside it, such as the status socket's.
 pub const WATCHED: u64 = u64::MAX - 1;
