@@ -1,4 +1,4 @@
--- What a listener was asked for.
+-- The calls of a listener in an accept and in a wait.
 use Rattle.std.specs.Prelude.{◌&&◌, not, OnErr}
 use Rattle.std.proofs.Common.{◌≡◌, ℕ, Bool, true, false, List, [], ◌∷◌, Option, None, Some, Result, Ok, Err, refl, sym, ap, subst, ◌∙◌, inl, inr}
 use Rattle.transport.specs.Asked.{Asks}
@@ -16,7 +16,7 @@ after_look may named places next unsure (Ok (Some n)) asks due noted = record { 
 after_look may named places next unsure (Ok None) asks due noted = inl (record { rest = asks; split = refl; due = due })
 after_look may named places next unsure (Err fault) asks due noted = inr (inr (record { rest = asks; split = refl; due = due }, noted))
 
--- a look, and then the next one who waits
+-- a look, then an accept of the next client
 pub asked_next : (may : Bool) (named : List Ready) (places next : ℕ) (unsure : Bool) (a b c : Option (List ListenerCall)) (looked : Result (Unit {0}) StreamFault) (r : Result (Option ℕ) WireFault) → AnswersAs (Ok tt) looked → Asks a b (Look looked ∷ []) → IsAskedForNext places b c r → OnErr r (unsure ≡ true) → IsAskedToAccept may named places next unsure a c r
 asked_next may named places next unsure a b c (Ok done) r well look after noted = record {
   asks = Look (Ok tt) ∷ after.asks;
@@ -25,7 +25,7 @@ asked_next may named places next unsure a b c (Ok done) r well look after noted 
 }
 asked_next may named places next unsure a b c (Err fault) r well look after noted = absurd (cc)
 
--- a look that failed
+-- the look failed
 pub asked_look : (may : Bool) (named : List Ready) (places next : ℕ) (unsure : Bool) (a b : Option (List ListenerCall)) (looked : Result (Unit {0}) StreamFault) (fault : WireFault) → AnswersAs (Err fault) looked → Asks a b (Look looked ∷ []) → IsAskedToAccept may named places next unsure a b (Err fault)
 asked_look may named places next unsure a b (Ok done) fault well look = absurd (cc)
 asked_look may named places next unsure a b (Err cause) fault well look = record { asks = Look (Err cause) ∷ []; asked = look; due = inr (inl (cause, refl)) }
@@ -34,7 +34,7 @@ was_false : (a b : Bool) → (a ≡ true → b ≡ true) → b ≡ false → a �
 was_false true b k e = absurd (let t : b ≡ true = k refl in let f : b ≡ false = e in cc)
 was_false false b k e = refl
 
--- nobody may wait
+-- no client may wait
 pub asked_nobody : (may now : Bool) (named : List Ready) (places next : ℕ) (unsure : Bool) (a b : Option (List ListenerCall)) (looked : Result (Unit {0}) StreamFault) → AnswersAs (Ok tt) looked → Asks a b (Look looked ∷ []) → (may ≡ true → now ≡ true) → (NamesListener named → now ≡ true) → now ≡ false → IsAskedToAccept may named places next unsure a b (Ok None)
 asked_nobody may now named places next unsure a b (Ok done) well look opens names closed = record {
   asks = Look (Ok tt) ∷ [];
@@ -47,13 +47,13 @@ asked_nobody may now named places next unsure a b (Err fault) well look opens na
 pub asked_nothing : (may : Bool) (named : List Ready) (places next : ℕ) (unsure : Bool) (a b : Option (List ListenerCall)) (fault : WireFault) → b ≡ a → IsSpent next → IsAskedToAccept may named places next unsure a b (Err fault)
 asked_nothing may named places next unsure a b fault e spent = record { asks = []; asked = subst (λ x. Asks a x []) (sym e) (asks_none a); due = inl (refl, spent) }
 
--- who waits first was not asked for
+-- the next client was not asked for
 pub asked_no_next : (places : ℕ) (a b : Option (List ListenerCall)) (fault : WireFault) → b ≡ a → LacksPlace fault places → IsAskedForNext places a b (Err fault)
 asked_no_next places a b fault e lacks = record { asks = []; asked = subst (λ x. Asks a x []) (sym e) (asks_none a); due = inl (refl, lacks) }
 
 -- ---- waits
 
--- one that is not to wait, and one where a read has left something
+-- no wait is made if it is not idle, or if bytes are kept
 pub made_not : (idle more : Bool) → idle ≡ false → is_made idle more ≡ false
 made_not idle more e = ap (λ (b : Bool). b && not more) e
 
@@ -61,7 +61,7 @@ pub made_no_more : (idle more : Bool) → more ≡ true → is_made idle more �
 made_no_more true more e = ap (λ (b : Bool). not b) e
 made_no_more false more e = refl
 
--- any other
+-- an idle wait without kept bytes is made
 pub made_once : (idle more : Bool) → idle ≡ true → more ≡ false → is_made idle more ≡ true
 made_once idle more e f = ap (λ (b : Bool). b && not more) e ∙ ap (λ (b : Bool). not b) f
 

@@ -1,4 +1,4 @@
--- What an endpoint was asked for.
+-- The calls of an endpoint and of a binder.
 use Rattle.std.specs.Prelude.{◌≢◌}
 use Rattle.std.proofs.Common.{ℕ, List, [], ◌∷◌, ◌++◌, Option, Result, Ok, Err, refl, inr}
 use Rattle.transport.specs.Asked.{Asks}
@@ -9,7 +9,7 @@ use Rattle.stream_transport.specs.System.{Accept, BinderCall, IsAskedForOne, IsA
 use Rattle.stream_transport.specs.declared.listener.StreamFault.{StreamFault}
 use Rattle.stream_transport.specs.declared.listener.StreamFault.TheVariants.{Failed}
 
--- who waits first came, and polls cannot name the stream
+-- a client came, but polls cannot name its stream
 pub named_not : (number : ℕ) (a b c : Option (List SystemCall)) (why : StreamFault) → Asks a b (Accept (Ok tt) ∷ []) → Asks b c (Name number (Err why) ∷ []) → IsAskedOnce number a c (Err Failed)
 named_not number a b c why p q = record {
   calls = Accept (Ok tt) ∷ Name number (Err why) ∷ [];
@@ -17,7 +17,7 @@ named_not number a b c why p q = record {
   due = inr (refl, (why, refl));
 }
 
--- it failed, and was tried once more
+-- an accept failed, and was tried once more
 pub again : {S : Type 0} (number : ℕ) (lingering : List (LingeringStream S)) (a b c : Option (List SystemCall)) (answer : Result (Unit {0}) StreamFault) → lingering ≢ []
     → IsAskedOnce number a b (Err Failed) → IsAskedOnce number b c answer → IsAskedForOne number lingering a c answer
 again number lingering a b c answer some p q = record {

@@ -1,4 +1,4 @@
--- The reads of a stream that lingers, as far as they were made.
+-- The reads of a lingering stream, as far as they were made.
 use Rattle.std.proofs.Common.{◌≡◌, ◌<◌, ◌+◌, Bool, List, [], ◌∷◌, ◌++◌, ℕ, zero, suc, Option, None, Some, Result, Ok, Err, refl, arith, sym, subst, append_assoc, append-nil}
 use Rattle.std.specs.Prelude.{◌≢◌, false, true}
 use Rattle.transport.specs.Asked.{Asks}
@@ -10,23 +10,23 @@ use Rattle.stream_transport.specs.declared.listener.StreamCall.TheVariants.{Rece
 use Rattle.stream_transport.specs.declared.listener.StreamFault.{StreamFault}
 use Rattle.stream_transport.specs.declared.listener.StreamFault.TheVariants.{Failed, Interrupted, WouldBlock}
 
--- these reads were made, and so many are left, of which the first ones may follow
+-- these reads were made, and `left` more may follow
 pub record Draining (old now : Option (List StreamCall)) (left : ℕ) : Type 0 where
   pub calls : List StreamCall
   pub asked : Asks old now calls
   pub due : (rest : List StreamCall) (result : Option Bool) → Drains left rest result → Drains READS (calls ++ rest) result
 
--- so many of READS were made
+-- `made` of the `READS` reads were made
 pub record HasDrained (old now : Option (List StreamCall)) (made : ℕ) : Type 0 where
   pub left : ℕ
   pub all : left + made ≡ READS
   pub so_far : Draining old now left
 
--- a call ends it so
+-- the call ends the drain with this result
 abbrev pub Stops : StreamCall → Option Bool → Type 0
 Stops call result = (left : ℕ) → Drains (suc left) (call ∷ []) result
 
--- after a call it goes on
+-- the drain goes on after the call
 abbrev pub Passes : StreamCall → Type 0
 Passes call = (left : ℕ) (rest : List StreamCall) (result : Option Bool) → Drains left rest result → Drains (suc left) (call ∷ rest) result
 
@@ -63,19 +63,19 @@ pub drained_more : (old mid new : Option (List StreamCall)) (made : ℕ) (call :
     → Asks mid new (call ∷ []) → Passes call → HasDrained old new (made + 1)
 drained_more old mid new made call d few asked passes = goes_after old mid new d.left made call d.all few d.so_far asked passes
 
--- a read that gave bytes goes on
+-- the drain goes on after a read that gave bytes
 pub passes_some : (room n : ℕ) → n ≢ 0 → Passes (Receive room (Ok n))
 passes_some room zero some = absurd (some refl)
 passes_some room (suc n) some = λ left rest result d. d
 
--- no read was left
+-- no read is left
 all_made : (old now : Option (List StreamCall)) (left : ℕ) → left ≡ 0 → Draining old now left → IsDrained old now (Some true)
 all_made old now left e d = record { calls = d.calls ++ []; asked = subst (Asks old now) (sym (append-nil d.calls)) d.asked; due = d.due [] (Some true) (subst (λ (n : ℕ). Drains n [] (Some true)) (sym e) (refl, refl)) }
 
 pub drained_all : (old now : Option (List StreamCall)) (made : ℕ) → HasDrained old now made → READS ≡ made → IsDrained old now (Some true)
 drained_all old now made d e = all_made old now d.left (omega (arith, d.all, e)) d.so_far
 
--- a read ends it that gave nothing or failed, or that found nothing now
+-- a read of 0 bytes ends the drain
 pub stops_ended : (room : ℕ) (answer : Result ℕ StreamFault) (n : ℕ) → answer ≡ Ok n → n ≡ 0 → Stops (Receive room answer) None
 stops_ended room answer n is none = rw (is, none) (λ left. (refl, refl))
 

@@ -1,4 +1,4 @@
--- Streams that linger leave in time.
+-- Lingering streams leave in time.
 use Rattle.std.proofs.Common.{Bool, Option, ◌≡◌, ◌<◌, ◌≤◌, ◌+◌, ◌-◌, ◌⊎◌, ℕ, List, [], ◌∷◌, ◌++◌, length, take, get_or, set, true, refl, sym, ap, ◌∙◌, subst, arith, inl, inr}
 use Rattle.std.specs.Prelude.{◌==◌, ◌≢◌, false, All, filter}
 use borrow.Author.Tests.{eqb-false, eqb-true}
@@ -19,7 +19,7 @@ is_it : (k i : ℕ) → (k ≡ i) ⊎ (k ≢ i)
 is_it k i = by_test (k == i) (λ e. eqb-true k i e) (λ e. eqb-false k i e)
 
 module _ {S : Type 0} where
-  -- of some streams the first ones have so many fewer looks left, and the others are as they were
+  -- the first `i` streams have fewer looks left, and the others are unchanged
   pub record HavePassed (looks : ℕ) (old new : List (LingeringStream S)) (i : ℕ) : Type 0 where
     pub passed : (k : ℕ) (d : LingeringStream S) → k < i → (get_or new k d).looks ≤ (get_or old k d).looks - looks
     pub rest : (k : ℕ) (d : LingeringStream S) → i ≤ k → get_or new k d ≡ get_or old k d
@@ -67,13 +67,13 @@ module _ {S : Type 0} where
   none_stays [] stay has = refl
   none_stays (x ∷ xs) stay has = absurd (omega (arith, stay 0 x (omega arith), ltb-true _ _ (has 0 x (omega arith))))
 
-  -- who had no more looks left is gone
+  -- each stream without looks left is gone
   pub gone_filtered : (looks : ℕ) (old passed new : List (LingeringStream S)) → Leave looks old passed → new ≡ filter has_looks passed → StayAtMost looks old → new ≡ []
   gone_filtered looks old passed new leave e stay =
       e ∙ none_stays (filter has_looks passed) (stay_filtered 0 passed (leave 0 (stay_longer looks (0 + looks) old (omega arith) stay))) (filter_passes has_looks passed)
 
   module _ (is_shut : S → Option Bool) where
-    -- of each of these streams it is told the same whether its writing side is shut
+    -- each stream tells of its writing side as before
     abbrev pub TellSame : (old new : List (LingeringStream S)) → Type 0
     TellSame old new = (k : ℕ) (d : LingeringStream S) → is_shut (get_or new k d).stream ≡ is_shut (get_or old k d).stream
 

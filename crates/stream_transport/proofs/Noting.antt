@@ -1,4 +1,4 @@
--- One more call was noted.
+-- One more recorded call.
 use Rattle.std.proofs.Common.{◌≡◌, List, [], ◌∷◌, ◌++◌, Some, ap, ◌∙◌}
 use Rattle.std.proofs.lemmas.List.{map-append}
 use Rattle.transport.specs.Asked.{Asks}

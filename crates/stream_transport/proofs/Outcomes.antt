@@ -1,4 +1,4 @@
--- What a result says, and what a call failed of.
+-- Results of calls, and the causes of faults.
 use Rattle.std.proofs.Common.{◌≡◌, ℕ, Bool, true, ◌<◌, ◌≤◌, ◌+◌, [], Option, Some, None, Result, Ok, Err, refl, ap, ◌∙◌, inl, inr, arith}
 use Rattle.std.proofs.lemmas.Bool.{cases_lt}
 use Rattle.transport.specs.Report.{HasCause, HasRisen}
@@ -16,11 +16,11 @@ crowded place len places le lt e = omega arith
 pub not_below : (n : ℕ) → n ≤ n
 not_below n = omega arith
 
--- nothing was counted
+-- no byte was counted
 pub counted_none : (n : ℕ) → n ≤ 2 ^ 64 - 1 → n ≡ counted n []
 counted_none n fits = (let same : n ≡ min (n + 0) (2 ^ 64 - 1) = omega arith in same)
 
--- what did not fail has no fault
+-- a call that succeeds needs no cause
 pub cause_of_ok : {T : Type 0} (v : T) (a b : ℕ) → a ≤ b → HasCause a b (Ok v)
 cause_of_ok v a b le = (le, λ e. absurd (cc))
 
@@ -31,16 +31,16 @@ risen_then a b c le after (inr top) = elim (cases_lt a b) [
   | inr past ↦ inr (omega arith)
 ]
 
--- a fault of the second call has its cause in both
+-- a fault of the second call has its cause in both calls
 pub cause_then : {T : Type 0} (a b c : ℕ) (r : Result T WireFault) → a ≤ b → HasCause b c r → HasCause a c r
 cause_then a b c r le cause = (omega (arith, cause.0), λ e. risen_then a b c le cause.0 (cause.1 e))
 
--- a fault that is passed on is what it was
+-- a fault that is passed on stays what it was
 pub passed_on : {T : Type 0} (r : Result T WireFault) (e f : WireFault) → IsErrAnd r (λ x. x ≡ e) → e ≡ f → r ≡ Err f
 passed_on (Ok v) e f p q = absurd p
 passed_on (Err x) e f p q = ap (λ (y : WireFault). Err y) (p ∙ q)
 
--- ---- what is noted of an accept
+-- ---- the readiness after an accept
 
 pub stays_open : (r : Result (Option ℕ) WireFault) (was : Bool) (old : Readiness) → old.may_accept ≡ true → StaysOpen r was (after_accept old r).may_accept
 stays_open (Ok (Some n)) was old may = may

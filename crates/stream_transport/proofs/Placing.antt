@@ -1,4 +1,4 @@
--- What stands in the place of a number, and what is held under it.
+-- The places of numbers, and the connections held under them.
 use Rattle.std.proofs.Common.{arith, ◌≡◌, ◌≢◌, ℕ, Bool, true, false, ◌<◌, ◌≤◌, ◌%◌, List, [], ◌∷◌, ◌++◌, Option, Some, None, Result, Ok, length, get_or, refl, sym, ap, subst, ◌∙◌, append-nil, inl, inr}
 use Rattle.std.specs.Prelude.{◌==◌, ◌||◌, ◌&&◌, cond, is_some, nat_eq, not, suc, zero, IfSome}
 use Rattle.std.proofs.KnownBytes.{Appends-nil}
@@ -28,32 +28,32 @@ module _ {S A : Type 0} where
   test_true : (t : Bool) (p : BufferedStream S A) → is_some (cond t (Some p) None) ≡ true → t ≡ true
   test_true t p e = sym (test_is t p) ∙ e
 
-  -- what has this number is the same under it
+  -- a connection with the number is found under it
   own : (number : ℕ) (x : Option (BufferedStream S A)) → is_some (of_number number x) ≡ true → of_number number x ≡ x
   own number None e = refl
   own number (Some p) e = ap (λ (t : Bool). cond t (Some p) None) (test_true (p.number == number) p e)
 
-  -- it has this number
+  -- the connection has the number
   pub number_of : (number : ℕ) (x : Option (BufferedStream S A)) → is_some (of_number number x) ≡ true → IfSome x (λ p. p.number ≡ number)
   number_of number None e = tt
   number_of number (Some p) e = eqb-true p.number number (test_true (p.number == number) p e)
 
-  -- and no other one
+  -- a connection is found under no other number
   no_other : (number other : ℕ) (x : Option (BufferedStream S A)) → is_some (of_number number x) ≡ true → other ≢ number → of_number other x ≡ None
   no_other number other None e apart = refl
   no_other number other (Some p) e apart =
       let same : p.number ≡ number = eqb-true p.number number (test_true (p.number == number) p e) in
       ap (λ (t : Bool). cond t (Some p) None) (ne_eqb p.number other (λ o. apart (sym o ∙ same)))
 
-  -- what stands in the place of a number is held under it, where it has the number
+  -- the connection in a number's place is held under it, if it has the number
   pub held_is : (places : List (Option (BufferedStream S A))) (number place : ℕ) (x : Option (BufferedStream S A)) → place ≡ number % PLACES → x ≡ get_or places place x → place < length places → of_number number x ≡ held places number
   held_is places number place x e is lt = ap (λ y. of_number number y) (get_or_read places place x lt is None ∙ ap (λ (k : ℕ). get_or places k None) e)
 
-  -- behind all places is nothing
+  -- no connection is held beyond the last place
   pub held_past : (places : List (Option (BufferedStream S A))) (number place : ℕ) → place ≡ number % PLACES → length places ≤ place → held places number ≡ None
   held_past places number place e past = ap (λ y. of_number number y) (ap (λ (k : ℕ). get_or places k None) (sym e) ∙ get_or_past places place None past)
 
-  -- whether what stands there has the number
+  -- the test whether a connection has the number
   pub held_test : (places : List (Option (BufferedStream S A))) (number place : ℕ) (x : Option (BufferedStream S A)) (p : BufferedStream S A) → place ≡ number % PLACES → x ≡ get_or places place x → place < length places → x ≡ Some p → (p.number == number) ≡ is_some (held places number)
   held_test places number place x p e is lt some =
       sym (test_is (p.number == number) p) ∙ (ap (λ y. is_some (of_number number y)) (sym some) ∙ ap (λ y. is_some y) (held_is places number place x e is lt))
@@ -65,7 +65,7 @@ module _ {S A : Type 0} where
   pub held_some : (number : ℕ) (p : BufferedStream S A) → is_some (of_number number (Some p)) ≡ true → of_number number (Some p) ≡ Some p
   held_some number p e = ap (λ (b : Bool). cond b (Some p) None) (sym (test_is (p.number == number) p) ∙ e)
 
-  -- what is held under a number was taken out of its place, and this is there now
+  -- a connection was taken out of its place, which now holds `y`
   pub record IsTaken (places : List (Option (BufferedStream S A))) (number place : ℕ) (x y : Option (BufferedStream S A)) : Type 0 where
     pub out : x ≡ held places number
     pub number_is : IfSome x (λ p. p.number ≡ number)
@@ -73,12 +73,12 @@ module _ {S A : Type 0} where
     pub none : held (set places place y) number ≡ None
     pub free : IfSome x (λ p. IsFree (set places place y) number)
 
-  -- nothing is held
+  -- no connection is held
   pub none_held : (x : Option (BufferedStream S A)) → is_some x ≡ false → x ≡ None
   none_held None e = refl
   none_held (Some p) e = absurd (let t : true ≡ false = e in cc)
 
-  -- so it is of anything that is there
+  -- a fact holds of any connection there
   pub if_some : (x : Option (BufferedStream S A)) (P : Type 0) → P → IfSome x (λ _. P)
   if_some None P h = tt
   if_some (Some p) P h = h
@@ -107,11 +107,11 @@ module _ {S A : Type 0} where
   nothing_behind (x ∷ places) zero = refl
   nothing_behind (x ∷ places) (suc n) = nothing_behind places n
 
-  -- one more place, where nothing is
+  -- an empty place more changes nothing
   pub held_pushed : (places : List (Option (BufferedStream S A))) (number : ℕ) → held (places ++ None ∷ []) number ≡ held places number
   held_pushed places number = ap (λ x. of_number number x) (nothing_behind places (number % PLACES))
 
-  -- ---- one that was taken out and put back
+  -- ---- a connection taken out and put back
 
   pub others_then : (old mid new : List (Option (BufferedStream S A))) (number again : ℕ) → again ≡ number → HoldsOthers old mid number → HoldsOthers mid new again → HoldsOthers old new number
   others_then old mid new number again same first second other apart = second other (λ e. apart (e ∙ same)) ∙ first other apart
@@ -125,14 +125,14 @@ module _ {S A : Type 0} where
   pub of_none : (P : BufferedStream S A → BufferedStream S A → Type 0) (a b : Option (BufferedStream S A)) → a ≡ None → OfHeld P a b
   of_none P a b d = subst (λ x. OfHeld P x b) (sym d) tt
 
-  -- what is kept of one that is held
+  -- the bytes kept of a held connection
   pub kept_held : (a : Option (BufferedStream S A)) (p : BufferedStream S A) → a ≡ Some p → kept_in a ≡ p.buffer.kept
   kept_held a p d = ap (λ x. kept_in x) d
 
   pub none_kept : (a : Option (BufferedStream S A)) → a ≡ None → kept_in a ≡ []
   none_kept a d = ap (λ x. kept_in x) d
 
-  -- ---- one that is quiet
+  -- ---- a connection that is quiet
 
   pub quiet_kept : (a : Option (BufferedStream S A)) → IsQuiet a → kept_in a ≡ []
   quiet_kept None q = absurd q
@@ -155,7 +155,7 @@ module _ {S A : Type 0} where
   quiet_sleeps None q = absurd q
   quiet_sleeps (Some p) q = q.0
 
--- nothing is noted of one that sleeps and has nothing left
+-- a read of a quiet connection leaves the readiness
 notes_none : (old : Readiness) (kept may : Bool) → kept ≡ false → may ≡ false → old ≡ record old { has_buffered = old.has_buffered || kept; needs_timeout = old.needs_timeout || may }
 notes_none old kept may k m =
     ap (λ (b : Bool). record old { has_buffered = b }) (or_false old.has_buffered ∙ ap (λ (b : Bool). old.has_buffered || b) (sym k))
@@ -171,7 +171,7 @@ module _ {S A : Type 0} where
   pub none_writes : (old : Readiness) (a : Option (BufferedStream S A)) (r : Result ℕ WireFault) → a ≡ None → old ≡ after_write old a r
   none_writes old a r e = ap (λ (b : Bool). record old { needs_timeout = b }) (or_false old.needs_timeout ∙ ap (λ x. old.needs_timeout || (writable x && took_nothing r)) (sym e))
 
-  -- what comes first takes the first place that is free
+  -- a new connection takes the first free place
   pub first_taken : (places new : List (Option (BufferedStream S A))) (number place own : ℕ) (q : Option (BufferedStream S A)) → number % PLACES ≡ place → own ≡ number → new ≡ set places (own % PLACES) q → AreTakenBelow places place → AreTakenBelow new (number % PLACES)
   first_taken places new number place own q e same is least earlier below none =
       let at_place : own % PLACES ≡ place = ap (λ (n : ℕ). n % PLACES) same ∙ e in

@@ -1,4 +1,4 @@
--- What a read of a stream leaves of its connection.
+-- A connection after a read of its stream.
 use Rattle.std.proofs.Common.{◌≡◌, ◌≢◌, ℕ, Bool, true, false, List, [], ◌∷◌, ◌++◌, Option, Some, None, length, sym, ap, subst, ◌∙◌, append_assoc, append-nil}
 use Rattle.std.specs.Prelude.{◌==◌}
 use Rattle.std.specs.Io.KnownBytes.{Appends, Consumes, Keeps, prepend_known}
@@ -36,15 +36,15 @@ unread_stays k (Some x) None p = absurd p
 unread_stays k (Some x) (Some y) p = ap (λ z. k ++ z) p
 
 module _ {S A : Type 0} where
-  -- nothing was given
+  -- no byte was given
   pub gives_none : (r : S → Option (List ℕ)) (p q : BufferedStream S A) → q.buffer.kept ≡ p.buffer.kept → Keeps (r p.stream) (r q.stream) → HasGiven r p q []
   gives_none r p q e k = kept_as p.buffer.kept q.buffer.kept (r p.stream) (r q.stream) e k
 
-  -- some of what came was given, and the rest is kept
+  -- some of the new bytes were given, and the rest is kept
   pub gives_came : (r : S → Option (List ℕ)) (p q : BufferedStream S A) (got given : List ℕ) → p.buffer.kept ≡ [] → given ++ q.buffer.kept ≡ got → Consumes (r p.stream) (r q.stream) got → HasGiven r p q given
   gives_came r p q got given none split came = came_of p.buffer.kept q.buffer.kept got given (r p.stream) (r q.stream) none split came
 
-  -- some of what is kept was given
+  -- some of the bytes kept were given
   pub gives_kept : (r : S → Option (List ℕ)) (p q : BufferedStream S A) (given : List ℕ) → q.stream ≡ p.stream → given ++ q.buffer.kept ≡ p.buffer.kept → HasGiven r p q given
   gives_kept r p q given same e = subst (λ x. Consumes (unread_of r p) (prepend_known q.buffer.kept (r x)) given) (sym same) (given_of p.buffer.kept q.buffer.kept given (r p.stream) e)
 

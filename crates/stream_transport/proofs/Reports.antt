@@ -1,4 +1,4 @@
--- What is reported of the connections that are held, and of all others.
+-- The report of the connections held, and of all others.
 use Rattle.std.proofs.Common.{◌≡◌, ◌≢◌, ℕ, ◌≤◌, List, [], ◌++◌, Option, Some, None, Result, Ok, Err, append-nil, length, refl, sym, ap, subst, ◌∙◌, inl, inr}
 use Rattle.std.proofs.lemmas.Bool.{cases_eq}
 use Rattle.std.specs.Prelude.{IfOk}
@@ -19,7 +19,7 @@ keeps_nil None b k = tt
 keeps_nil (Some x) None k = absurd k
 keeps_nil (Some x) (Some y) k = k
 
--- nothing was read
+-- no byte was read
 pub reads_none : (t : Report) (number : ℕ) (lent : List ℕ) → Reads t t number (Ok Nothing) lent
 reads_none t number lent = record {
   consumed = Consumes-nil (t.unread number);
@@ -86,7 +86,7 @@ module _ {S A : Type 0} where
     failed = (kept n).failed;
   }
 
-  -- a stream comes, under its number
+  -- a stream comes under its number
   pub comes : (r c : S → Option (List ℕ)) (g : ℕ → List ℕ) (t u : Report) (old mid new : List (Option (BufferedStream S A))) (number : ℕ) (q : BufferedStream S A) → AreAlike old mid → held mid number ≡ None → held new number ≡ Some q → HoldsOthers mid new number
       → Keeps (t.unread number) (r q.stream) × Keeps (t.written number) (c q.stream) → KeepsElse t u number → q.buffer.kept ≡ [] → KeepsAll (reported r c g t old) (reported r c g u new)
   comes r c g t u old mid new number q alike none some holds out rest nil n =
@@ -103,7 +103,7 @@ module _ {S A : Type 0} where
         | inr apart ↦ others_kept r c g g t u mid new number holds rest.others (λ other apart. refl) n apart
       ])
 
-  -- nobody is held, and nothing was given
+  -- no connection is held, and no byte was given
   pub none_held : (r c : S → Option (List ℕ)) (noted : List (ℕ × Bytes)) (t : Report) (places : List (Option (BufferedStream S A))) → noted ≡ [] → places ≡ [] → KeepsAll (none_given t) (reported r c (given_under noted) t places)
   none_held r c noted t places e f = rw (e, f) (λ n. record { unread = Keeps-refl (t.unread n); given = refl; written = Keeps-refl (t.written n); shut = stays-refl (t.is_shut n); failed = stays-refl (t.has_failed n) })
 
@@ -146,7 +146,7 @@ module _ {S A : Type 0} where
     others = others_kept r c g g t u old new number holds n.others (λ other apart. refl);
   }
 
-  -- this connection was read from, and is held again
+  -- the connection was read, and is held again
   pub reads_held : (r c : S → Option (List ℕ)) (g h : ℕ → List ℕ) (t u : Report) (old new : List (Option (BufferedStream S A))) (number : ℕ) (p q : BufferedStream S A) (result : Result Got WireFault) (lent : List ℕ) → held old number ≡ Some p → held new number ≡ Some q → HoldsOthers old new number → HasGiven r p q (bytes_read result lent) → Keeps (written_of c p) (written_of c q) → EndsAt result (unread_of r q) → Notes t u number result → h number ≡ g number ++ bytes_read result lent → ((other : ℕ) → other ≢ number → h other ≡ g other) → Reads (reported r c g t old) (reported r c h u new) number result lent
   reads_held r c g h t u old new number p q result lent d e holds gave kept ended n more same = record {
     consumed = at_both (λ a b. Consumes a b (bytes_read result lent)) (unread_of r) (t.unread number) (u.unread number) (held old number) (held new number) p q d e gave;

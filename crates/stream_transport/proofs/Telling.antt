@@ -1,4 +1,4 @@
--- What was noted under a number, after one more.
+-- The records under a number, after one more.
 use Rattle.std.proofs.Common.{◌≡◌, ◌≢◌, ℕ, Bool, true, false, List, [], ◌∷◌, ◌++◌, Option, None, Some, append-nil, append_assoc, refl, sym, ap, ◌∙◌}
 use Rattle.std.specs.Prelude.{◌==◌, ◌||◌, cond}
 use borrow.Author.Tests.{eqb-false, ne_eqb}
@@ -51,7 +51,7 @@ module _ {X : Type 0} where
     all_else [] number other x apart = ap (λ (b : Bool). cond b (f x) [] ++ []) (ne_eqb number other (λ e. apart (sym e)))
     all_else (y ∷ xs) number other x apart = ap (λ (l : List ℕ). cond (y.0 == other) (f y.1) [] ++ l) (all_else xs number other x apart)
 
--- what one more read gave was noted
+-- the bytes of one more read were recorded
 pub given_now : (noted now : List (ℕ × Bytes)) (number : ℕ) (moved : Bytes) (none given : List ℕ) → now ≡ noted ++ (number, moved) ∷ [] → moved.items ≡ none ++ given → none ≡ [] → given_under now number ≡ given_under noted number ++ given
 given_now noted now number moved none given e m z =
     let bytes : moved.items ≡ given = m ∙ ap (λ (l : List ℕ). l ++ given) z in

@@ -1,4 +1,4 @@
--- Those that a look or a wait has named are awake.
+-- Each stream named by a look or a wait is awake.
 use Rattle.std.proofs.Common.{◌≡◌, ◌≢◌, ℕ, Bool, true, ◌+◌, ◌<◌, ◌≤◌, List, Option, Some, None, Result, Ok, Err, refl, sym, ap, subst, ◌∙◌, inl, inr, arith}
 use Rattle.std.proofs.lemmas.Bool.{cases_eq}
 use Rattle.std.proofs.lemmas.Option.{slice_get_within}
@@ -12,26 +12,26 @@ use Rattle.transport.specs.declared.wire.WireFault.{WireFault}
 use Rattle.stream_transport.specs.Asking.{AreAwake, AreAwakeStill, HoldsAccepted, IsAwake, IsAwakeStill}
 
 module _ {S A : Type 0} where
-  -- the first so many are awake
+  -- the streams among the first `n` named are awake
   abbrev pub AwakeTo : ℕ → List Ready → List (Option (BufferedStream S A)) → Type 0
   AwakeTo n named places = (place number : ℕ) → place < n → slice_get named place ≡ Some (Stream number) → IsAwake (held places number)
 
-  -- one that was awake is awake still
+  -- an awake connection stays awake
   awake_one : (a b : Option (BufferedStream S A)) → IsAwakeStill a b → IsAwake a → IsAwake b
   awake_one None b still awake = still
   awake_one (Some p) None still awake = absurd still
   awake_one (Some p) (Some q) still awake = (still.0 awake.0, still.1 awake.1)
 
-  -- one that is awake is awake still, where it was held or is new
+  -- a connection unchanged stays as awake
   still_as : (a : Option (BufferedStream S A)) → IsAwakeStill a a
   still_as None = tt
   still_as (Some p) = ((λ e. e), (λ e. e))
 
-  -- what holds the same is awake still
+  -- unchanged connections stay as awake
   pub still_same : (old new : List (Option (BufferedStream S A))) → HoldsAll old new → AreAwakeStill old new
   still_same old new same m = subst (λ x. IsAwakeStill (held old m) x) (sym (same m)) (still_as (held old m))
 
-  -- where one is awake still and the others are as they were
+  -- if one connection stays awake and the others are unchanged, all stay as awake
   pub still_one : (old new : List (Option (BufferedStream S A))) (number : ℕ) → HoldsOthers old new number → IsAwakeStill (held old number) (held new number) → AreAwakeStill old new
   still_one old new number others one m = elim (cases_eq m number) [
     | inl same ↦ subst (λ (k : ℕ). IsAwakeStill (held old k) (held new k)) (sym same) one
@@ -53,18 +53,18 @@ module _ {S A : Type 0} where
   pub awake_still : (named : List Ready) (old new : List (Option (BufferedStream S A))) → AreAwakeStill old new → AreAwake named old → AreAwake named new
   awake_still named old new still awake place number is = awake_one (held old number) (held new number) (still number) (awake place number is)
 
-  -- the same of those that are named after a call
+  -- streams named before a call are awake after it
   pub awake_named : (named now : List Ready) (old new : List (Option (BufferedStream S A))) → now ≡ named → AreAwakeStill old new → AreAwake named old → AreAwake now new
   awake_named named now old new e still awake = subst (λ x. AreAwake x new) (sym e) (awake_still named old new still awake)
 
-  -- one more was remembered
+  -- one more that was named is marked
   pub awake_more : (n : ℕ) (named : List Ready) (found : Option Ready) (old new : List (Option (BufferedStream S A))) → found ≡ slice_get named n → ((number : ℕ) → found ≡ Some (Stream number) → IsAwake (held new number)) → AreAwakeStill old new → AwakeTo n named old → AwakeTo (n + 1) named new
   awake_more n named found old new is one still awake place number lt e = elim (cases_eq place n) [
     | inl same ↦ one number (is ∙ (ap (λ (k : ℕ). slice_get named k) (sym same) ∙ e))
     | inr apart ↦ awake_one (held old number) (held new number) (still number) (awake place number (let a : place ≢ n = apart in omega arith) e)
   ]
 
-  -- what holds the same is alike
+  -- an unchanged connection is alike
   alike_refl : (a : Option (BufferedStream S A)) → IsAlike a a
   alike_refl None = refl
   alike_refl (Some p) = (refl, refl)
@@ -81,7 +81,7 @@ module _ {S A : Type 0} where
   pub still_alike : (old mid new : List (Option (BufferedStream S A))) → AreAlike old mid → AreAlike mid new → AreAlike old new
   still_alike old mid new first second n = alike_then (held old n) (held mid n) (held new n) (first n) (second n)
 
-  -- who is held after an accept, from what is alike
+  -- the connections held after an accept, compared with alike ones
   pub accepted_alike : (r : Result (Option ℕ) WireFault) (old mid new : List (Option (BufferedStream S A))) → AreAlike old mid → HoldsAccepted r mid new → HoldsAccepted r old new
   accepted_alike (Ok (Some n)) old mid new first second = (second.0, λ other apart. alike_then (held old other) (held mid other) (held new other) (first other) (second.1 other apart))
   accepted_alike (Ok None) old mid new first second = still_alike old mid new first second
@@ -93,15 +93,15 @@ module _ {S A : Type 0} where
     λ other apart. subst (λ x. IsAlike (held old other) x) (sym (others other (λ e. apart (e ∙ same)))) (alike_refl (held old other)),
   )
 
-  -- none was named yet
+  -- nothing is marked yet
   pub awake_none : (named : List Ready) (places : List (Option (BufferedStream S A))) → AwakeTo 0 named places
   awake_none named places place number lt e = absurd (omega arith)
 
-  -- all of them
+  -- all that were named are marked
   pub awake_all : (n : ℕ) (named : List Ready) (places : List (Option (BufferedStream S A))) → n ≡ length named → AwakeTo n named places → AreAwake named places
   awake_all n named places e awake place number is = awake place number (let lt : place < length named = slice_get_within named place (Stream number) is in omega arith) is
 
--- where one of the first so many is the listener, it is so
+-- if the listener is among the first `n` named, the flag is set
 abbrev pub NamedTo : ℕ → List Ready → Bool → Type 0
 NamedTo n named now = (place : ℕ) → place < n → slice_get named place ≡ Some Listener → now ≡ true
 

@@ -1,11 +1,11 @@
--- The calls of a wire, by what was noted of each (own choice).
+-- The calls of a wire, from the record of each (own choice).
 use Rattle.std.specs.Prelude.{List, map, ℕ}
 use Rattle.byte_logs.specs.declared.log.Bytes.{Bytes}
 use Rattle.transport.specs.Asked.{Accept, Call, Read, Shut, Wait, Write}
 use Rattle.stream_transport.specs.declared.wire.WireCall.{WireCall}
 use Rattle.stream_transport.specs.declared.wire.WireCall.TheVariants as noted
 
--- a call that was noted, with the bytes of a write
+-- a recorded call, with the bytes of a write
 abbrev pub call_of : WireCall → List ℕ → Call
 call_of (noted.Accept answer) bytes = Accept answer
 call_of (noted.Read number most) bytes = Read number most

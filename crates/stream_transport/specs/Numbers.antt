@@ -5,22 +5,22 @@ use Rattle.stream_transport.specs.declared.lingering.TheConstants.{DRAINING_PATI
 use Rattle.stream_transport.specs.declared.sockets.TheConstants.{EVENTS, VISIT_PATIENCE}
 use Rattle.stream_transport.specs.declared.tokens.TheConstants.{LISTENER, WATCHED}
 
--- who lingers: how many at most, each for how many looks, of which a wait that found nobody counts so many, and how often one is
--- read at a look
+-- lingering: most streams, looks of each, looks counted for a wait that found nothing, and reads of a stream at a
+-- look
 pub record AreLingering : Type 0 where
   pub most : LINGERING_MAX ≡ 256
   pub looks : LOOKS_MAX ≡ 4096
   pub idle : IDLE_LOOKS ≡ 64
   pub reads : READS ≡ 4
 
--- how many milliseconds a wait lasts at most: while all that was sent by those who linger is read, while not all is, and if a
--- visitor may be unanswered
+-- the longest waits in milliseconds: if all lingering streams are drained, if not, and if a client of the watched
+-- listener may be unanswered
 pub record ArePatiences : Type 0 where
   pub drained : IDLE_PATIENCE ≡ 50
   pub draining : DRAINING_PATIENCE ≡ 1
   pub visited : VISIT_PATIENCE ≡ 500
 
--- these, the places of connections, the events of a poll, and by what number it names a listener
+-- the limits of lingering and of waits, the places of connections, the events of a poll, and the tokens of listeners
 pub record AreNumbers : Type 0 where
   pub lingering : AreLingering
   pub patiences : ArePatiences

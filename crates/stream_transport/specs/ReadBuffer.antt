@@ -1,17 +1,17 @@
--- What was read from a connection and is not given yet, and what is lent (own choice).
+-- The bytes read from a connection and not given yet, and the bytes lent (own choice).
 use Rattle.std.specs.Prelude.{◌≡◌, ◌≤◌, ◌==◌, cond, drop, length, take, ℕ, List, Vec, vec_len, vec_capacity}
 use Rattle.stream_transport.specs.declared.kept.Spare.{Spare}
 
--- the bytes that its last read gave, where it lends them, and those that are kept
+-- the bytes the last read gave, while the buffer lends them, and the bytes kept
 pub record Buffered : Type 0 where
   pub lent : List ℕ
   pub kept : List ℕ
 
--- the bytes from one place on, before another one
+-- the bytes from one index on, before another
 abbrev pub between : ℕ → ℕ → List ℕ → List ℕ
 between start end bytes = drop start (take end bytes)
 
--- the places follow one another, and there is room only while bytes are kept
+-- the indices rise, and the buffer owns memory only while bytes are kept
 pub record IsReadBuffer {A : Type 0} (given start end : ℕ) (bytes : Vec ℕ A) : Type 0 where
   pub given_before : given ≤ start
   pub start_before : start ≤ end
@@ -19,10 +19,10 @@ pub record IsReadBuffer {A : Type 0} (given start end : ℕ) (bytes : Vec ℕ A)
   pub room : start ≡ end → vec_capacity bytes ≡ 0
 
 module _ {A : Type 0} where
-  -- the bytes that lie in the spare room
+  -- the bytes given last in the spare room
   abbrev pub lent_by : Spare A → List ℕ
   lent_by spare = between spare.start spare.end spare.bytes.items
 
-  -- the bytes that the last read gave: they lie in the connection's room while others are kept there, and else in the spare one
+  -- the bytes the last read gave: in the connection's buffer while it keeps others, otherwise in the spare room
   abbrev pub lent_from : Spare A → Buffered → List ℕ
   lent_from spare buffer = cond (length buffer.kept == 0) (lent_by spare) buffer.lent

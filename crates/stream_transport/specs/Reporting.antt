@@ -1,4 +1,4 @@
--- What a wire of the code reports before and after a call, and what it counts (own choice).
+-- What a wire reports before and after a call, and what it counts (own choice).
 use Rattle.std.specs.Prelude.{◌≡◌, ℕ, List, [], false, Some, Result}
 use Rattle.transport.specs.Report.{KeepsAll, Report, Reads, Writes, Shuts, bytes_read, bytes_written}
 use Rattle.transport.specs.declared.wire.Got.{Got}
@@ -8,7 +8,7 @@ use Rattle.stream_transport.specs.Held.{counted}
 use Rattle.stream_transport.specs.declared.wire.StreamWire.{StreamWire}
 use Rattle.stream_transport.specs.declared.wire.Traffic.{Traffic}
 
--- of a number is reported that nothing was given or written, that it is not shut, and that no call of it has failed
+-- nothing was given or written under the number, it is not shut, and no call of it failed
 pub record IsBlank (report : Report) (number : ℕ) : Type 0 where
   pub given : report.given number ≡ Some []
   pub written : report.written number ≡ Some []
@@ -18,7 +18,7 @@ pub record IsBlank (report : Report) (number : ℕ) : Type 0 where
 abbrev pub AreBlank : Report → Type 0
 AreBlank report = (number : ℕ) → IsBlank report number
 
--- what a read with this answer gave that left this wire
+-- the bytes that a read with this result gave, lent by the wire
 abbrev pub given_last : {W : Type 0} → Ghosts W → W → Result Got WireFault → List ℕ
 given_last wires new result = bytes_read result (wires.lent new)
 
@@ -36,7 +36,7 @@ module _ {W : Type 0} (wires : Ghosts W) (old new : W) where
   abbrev pub ReportsShut : ℕ → Type 0
   ReportsShut number = Shuts (wires.bound old) (wires.report old) (wires.report new) number
 
--- no byte passed yet
+-- no byte yet
 abbrev pub no_traffic : Traffic
 no_traffic = record { received = 0; sent = 0 }
 

@@ -1,5 +1,5 @@
--- What a listener tells of the connections that a wire does not hold, and what each of its calls does to that; and what it
--- and its streams are asked for (own choice).
+-- What a listener tells of connections that a wire does not hold, how its calls change that, and the calls of it and
+-- its streams (own choice).
 use Rattle.std.specs.Prelude.{◌≡◌, ⊤, ℕ, List, map, Option, Some, Result, Ok, Err, slice_get}
 use Rattle.std.specs.Io.KnownBytes.{Keeps, ReadConsumes, WriteAppends, prepend_known}
 use Rattle.transport.specs.declared.wire.WireFault.{WireFault}
@@ -11,59 +11,59 @@ use Rattle.stream_transport.specs.declared.listener.StreamFault.TheVariants.{Wou
 use Rattle.std.specs.declared.io.ErrorKind.{ErrorKind}
 use Rattle.std.specs.declared.io.ErrorKind.TheVariants as kind
 
--- why a call gave nothing, by the kind of the system's error
+-- the stream fault of each kind of system error
 abbrev pub fault_by : ErrorKind → StreamFault
 fault_by kind.WouldBlock = WouldBlock
 fault_by kind.Interrupted = Interrupted
 fault_by _ = Failed
 
--- what was noted, of what stands beside it
+-- the first components of a list of pairs
 abbrev pub firsts : {A B : Type 0} → List (A × B) → List A
 firsts pairs = map (λ pair. pair.0) pairs
 
--- whether somebody came, by the answer of an accept
+-- the result of an accept without its stream
 abbrev pub answer_of : {S : Type 0} → Result S StreamFault → Result (Unit {0}) StreamFault
 answer_of (Ok stream) = Ok tt
 answer_of (Err fault) = Err fault
 
--- a look or a wait has named the listener: somebody may wait to be accepted
+-- a look or a wait named the listener: a client may wait to be accepted
 abbrev pub NamesListener : List Ready → Type 0
 NamesListener named = (place : ℕ) × (slice_get named place ≡ Some Listener)
 
--- all is told as it was, but for the bytes of this number
+-- everything told stays, except for the bytes of this number
 pub record KeepsElse (old new : Report) (number : ℕ) : Type 0 where
   pub shut : Stays (old.is_shut number) (new.is_shut number)
   pub failed : Stays (old.has_failed number) (new.has_failed number)
   pub others : KeepsOthers old new number
 
--- a read of a stream gave the next ones of the bytes that it has left
+-- a read of a stream gave the next of the bytes it has left
 abbrev pub Receives : {S E : Type 0} → (S → Option (List ℕ)) → (old new : S)
     → Result ℕ E → List ℕ → Type 0
 Receives remaining old new result buf = ReadConsumes (remaining old) (remaining new) result buf
 
--- a read of a stream added to the bytes that its reads gave
+-- a read of a stream added to the bytes its reads gave
 abbrev pub Gave : {S E : Type 0} → (S → Option (List ℕ)) → (old new : S)
     → Result ℕ E → List ℕ → Type 0
 Gave given old new result buf = WriteAppends (given old) (given new) result buf
 
--- a write to a stream added to the bytes that it took
+-- a write to a stream added to the bytes it took
 abbrev pub Sends : {S E : Type 0} → (S → Option (List ℕ)) → (old new : S)
     → Result ℕ E → List ℕ → Type 0
 Sends contents old new result buf = WriteAppends (contents old) (contents new) result buf
 
 module _ {S : Type 0} (unread written : S → Option (List ℕ)) where
-  -- a stream that was handed out has the bytes that were told of this number, those to be read and those that it took
+  -- a new stream has the bytes told of its number, to be read and taken
   abbrev pub HandsOut : {E : Type 0} → Report → ℕ → Result S E → Type 0
   HandsOut told number (Ok stream) =
       Keeps (told.unread number) (unread stream) × Keeps (told.written number) (written stream)
   HandsOut told number (Err error) = ⊤
 
-  -- of this number the bytes of a stream are told, those to be read, behind some that are kept, and those that it took
+  -- the bytes of a stream are told of its number: to be read, behind the bytes kept, and taken
   pub record HasBack (told : Report) (number : ℕ) (kept : List ℕ) (stream : S) : Type 0 where
     pub left : Keeps (prepend_known kept (unread stream)) (told.unread number)
     pub taken : Keeps (written stream) (told.written number)
 
--- it was told that a call of this number has failed, and of nothing else
+-- the listener tells that a call of this number failed, and nothing else is new
 pub record IsToldFailed (old new : Report) (number : ℕ) : Type 0 where
   pub unread : Keeps (old.unread number) (new.unread number)
   pub given : Keeps (old.given number) (new.given number)
@@ -72,7 +72,7 @@ pub record IsToldFailed (old new : Report) (number : ℕ) : Type 0 where
   pub failed : IsRaised (old.has_failed number) (new.has_failed number)
   pub others : KeepsOthers old new number
 
--- it was told that this number is shut, and of nothing else
+-- the listener tells that this number was shut, and nothing else is new
 pub record IsToldShut (old new : Report) (number : ℕ) : Type 0 where
   pub unread : Keeps (old.unread number) (new.unread number)
   pub given : Keeps (old.given number) (new.given number)
@@ -81,7 +81,7 @@ pub record IsToldShut (old new : Report) (number : ℕ) : Type 0 where
   pub failed : Stays (old.has_failed number) (new.has_failed number)
   pub others : KeepsOthers old new number
 
--- it was told of a call of this number that failed, and else of nothing
+-- the listener tells whether a call of this number failed, and nothing else is new
 pub record Notes {T : Type 0} (old new : Report) (number : ℕ) (result : Result T WireFault)
     : Type 0 where
   pub unread : Keeps (old.unread number) (new.unread number)

@@ -1,4 +1,4 @@
--- The calls of the system that sockets are made of, with their answers (own choice).
+-- The system calls that sockets are made of, with their results (own choice).
 use Rattle.std.specs.Prelude.{◌≡◌, ◌≢◌, ◌==◌, ◌*◌, ◌⊎◌, ⊤, ℕ, zero, suc, Bool, true, false, List, [], ◌∷◌, ◌++◌, All, cond, flat_map, Option, None, Some, Result, Ok, Err, OnErr, OnOk, option_map}
 use Rattle.std.specs.Duration.{as_nanos}
 use Rattle.std.specs.IoError.{error_kind}
@@ -25,45 +25,45 @@ use Rattle.stream_transport.specs.declared.sockets.SocketStream.{SocketStream}
 use Rattle.stream_transport.specs.declared.sockets.TheConstants.{VISIT_PATIENCE}
 use Rattle.stream_transport.specs.declared.tokens.TheConstants.{LISTENER, WATCHED}
 
--- a call of an endpoint: of who waits first, of having polls name a stream or a listener by a number, and a poll, of so many
--- nanoseconds at most, or until somebody is ready, with the events that it gave
+-- a call of an endpoint: an accept, the naming of a stream or a listener by a number, or a poll of at most this many
+-- nanoseconds, or without a limit, with its events
 pub data SystemCall : Type 0 where
   Accept : (answer : Result (Unit {0}) StreamFault) → SystemCall
   Name : (number : ℕ) (answer : Result (Unit {0}) StreamFault) → SystemCall
   NameListener : (number : ℕ) (answer : Result (Unit {0}) StreamFault) → SystemCall
   Poll : (most : Option ℕ) (events : List Event) (answer : Result (Unit {0}) StreamFault) → SystemCall
 
--- a call of who makes an endpoint, and a listener at a path
+-- a call of a binder: for an endpoint, or for a listener at a path
 pub data BinderCall : Type 0 where
   Open : (answer : Result (Unit {0}) StreamFault) → BinderCall
   Listen : (path : List ℕ) (answer : Result (Unit {0}) StreamFault) → BinderCall
 
--- what the system answered, with the reason if it gave nothing
+-- the result of a system call, with its error as a stream fault
 abbrev pub answer_by : {T : Type 0} → Result T Error → Result T StreamFault
 answer_by (Ok value) = Ok value
 answer_by (Err error) = Err (fault_by (error_kind error))
 
--- the same without what it gave
+-- the result of a system call without its value
 abbrev pub outcome_by : {T : Type 0} → Result T Error → Result (Unit {0}) StreamFault
 outcome_by (Ok value) = Ok tt
 outcome_by (Err error) = Err (fault_by (error_kind error))
 
--- how long a poll lasts at most, in nanoseconds
+-- the longest duration of a poll, in nanoseconds
 abbrev pub most_of : Option Duration → Option ℕ
 most_of patience = option_map as_nanos patience
 
--- if calls are told, none was made
+-- no call was made, if calls are told
 abbrev pub IsUnused : {C : Type 0} → Option (List C) → Type 0
 IsUnused None = ⊤
 IsUnused (Some calls) = calls ≡ []
 
--- if it is told, the writing side is shut
+-- the writing side is shut, if that is told
 abbrev pub IsShut : Option Bool → Type 0
 IsShut None = ⊤
 IsShut (Some flag) = flag ≡ true
 
--- what one accept asks an endpoint for, by its answer: who waits first, whom polls name by this number; if they cannot, it
--- fails
+-- the calls of one accept with this result: the next client, then the naming of its stream; if that fails, the accept
+-- failed
 abbrev pub AcceptsAs : ℕ → Result (Unit {0}) StreamFault → List SystemCall → Type 0
 AcceptsAs number (Ok done) calls = calls ≡ Accept (Ok tt) ∷ Name number (Ok tt) ∷ []
 AcceptsAs number (Err fault) calls =
@@ -71,7 +71,7 @@ AcceptsAs number (Err fault) calls =
     ⊎ ((fault ≡ Failed)
     × ((why : StreamFault) × (calls ≡ Accept (Ok tt) ∷ Name number (Err why) ∷ [])))
 
--- an accept that failed, and one more
+-- a failed accept, and one more
 pub record AcceptsAgain (number : ℕ) (answer : Result (Unit {0}) StreamFault) (calls : List SystemCall)
     : Type 0 where
   pub first : List SystemCall
@@ -80,7 +80,7 @@ pub record AcceptsAgain (number : ℕ) (answer : Result (Unit {0}) StreamFault) 
   pub failed : AcceptsAs number (Err Failed) first
   pub due : AcceptsAs number answer again
 
--- an endpoint was asked for who waits first: once, or once more if that failed and somebody lingered
+-- the endpoint was asked for the next client once, or once more if that failed while streams lingered
 pub record IsAskedForOne {S : Type 0} (number : ℕ) (lingering : List (LingeringStream S))
     (old new : Option (List SystemCall)) (answer : Result (Unit {0}) StreamFault) : Type 0 where
   pub calls : List SystemCall
@@ -88,18 +88,19 @@ pub record IsAskedForOne {S : Type 0} (number : ℕ) (lingering : List (Lingerin
   pub due : AcceptsAs number answer calls
       ⊎ ((lingering ≢ []) × AcceptsAgain number answer calls)
 
--- an endpoint was asked so once
+-- the endpoint was asked for the next client once
 pub record IsAskedOnce (number : ℕ) (old new : Option (List SystemCall))
     (answer : Result (Unit {0}) StreamFault) : Type 0 where
   pub calls : List SystemCall
   pub asked : Asks old new calls
   pub due : AcceptsAs number answer calls
 
--- what was asked for nothing before was asked for these calls
+-- an object without calls before has these calls now
 abbrev pub IsAskedAnew : {E C : Type 0} → (E → Option (List C)) → E → List C → Type 0
 IsAskedAnew {E} calls now asked = (first : E) × (IsUnused (calls first) × Asks (calls first) (calls now) asked)
 
--- what a bind asks for that made a wire, or failed so: an endpoint, and a listener at the path; nothing, if memory is refused
+-- the calls of a bind with this result: an endpoint, then a listener at the path; none if memory ran out or the path
+-- is empty
 abbrev pub BindsAs : {W : Type 0} → (path : List ℕ) → Result W WireFault → List BinderCall → Type 0
 BindsAs path (Ok wire) calls = calls ≡ Open (Ok tt) ∷ Listen path (Ok tt) ∷ []
 BindsAs path (Err OutOfMemory) calls = calls ≡ []
@@ -109,20 +110,20 @@ BindsAs path (Err Device) calls =
     ⊎ ((answer : Result (Unit {0}) StreamFault)
     × (calls ≡ Open (Ok tt) ∷ Listen path answer ∷ [])))
 
--- it was asked so
+-- the binder was asked as a bind should
 pub record IsAskedToBind {W : Type 0} (path : List ℕ) (old new : Option (List BinderCall))
     (result : Result W WireFault) : Type 0 where
   pub calls : List BinderCall
   pub asked : Asks old new calls
   pub due : BindsAs path result calls
 
--- polls were to name one more listener by this number; if they can, a watcher may be refused still
+-- polls were to name one more listener by this number; the watch may fail even if they do
 abbrev pub Watches : ℕ → (old new : Option (List SystemCall)) → Result (Unit {0}) StreamFault → Type 0
 Watches number old new (Ok done) = Asks old new (NameListener number (Ok tt) ∷ [])
 Watches number old new (Err fault) =
     Asks old new (NameListener number (Ok tt) ∷ []) ⊎ Asks old new (NameListener number (Err fault) ∷ [])
 
--- the one that a token names: nobody, if it is that of a listener that is watched
+-- what a token names; nothing for the listener that is watched
 abbrev pub named_by : Token → Option Ready
 named_by token =
     cond (token.0 == WATCHED) None (Some (cond (token.0 == LISTENER) Listener (Stream token.0)))
@@ -131,45 +132,45 @@ abbrev pub listed : {X : Type 0} → Option X → List X
 listed None = []
 listed (Some x) = x ∷ []
 
--- whom these events name, in their order
+-- what these events name, in their order
 abbrev pub names_of : List Event → List Ready
 names_of events = flat_map (λ event. listed (named_by (event_token event))) events
 
 module _ {S : Type 0} (is_shut : S → Option Bool) where
-  -- the writing side of each of these is shut
+  -- the writing side of each stream is shut
   abbrev pub AreShut : List (LingeringStream S) → Type 0
   AreShut streams = All (λ lingering. IsShut (is_shut lingering.stream)) streams
 
-  -- if the writing side of all that lingered was shut, that of all that lingers is
+  -- streams that linger stay shut for writing
   abbrev pub KeepsShut : List (LingeringStream S) → List (LingeringStream S) → Type 0
   KeepsShut old new = AreShut old → AreShut new
 
--- how long a wait lasts at most: for half a second if a visitor may be unanswered
+-- the longest wait: half a second if a client of the watched listener may be unanswered
 abbrev pub visited_for : (is_visited : Bool) → Option ℕ → Option ℕ
 visited_for true most = Some (VISIT_PATIENCE * 1000000)
 visited_for false most = most
 
--- the same while these linger: for a short time, and a shorter one if not all that was sent is read
+-- the longest wait while streams linger: `IDLE_PATIENCE`, or `DRAINING_PATIENCE` if one may have unread bytes
 abbrev pub lingering_for : {S : Type 0} → List (LingeringStream S) → Option ℕ → Option ℕ
 lingering_for [] most = most
 lingering_for (first ∷ rest) most =
     Some (cond (are_drained (first ∷ rest)) IDLE_PATIENCE DRAINING_PATIENCE * 1000000)
 
--- one poll was made, for so long
+-- one poll was made, with this limit
 abbrev pub IsPolled : {S : Type 0} → Option Duration → List (LingeringStream S) → (is_visited : Bool)
     → (old new : Option (List SystemCall)) → List Event → Result (Unit {0}) StreamFault → Type 0
 IsPolled patience lingering is_visited old new events answer =
     Asks old new
     (Poll (lingering_for lingering (visited_for is_visited (most_of patience))) events answer ∷ [])
 
--- of nothing it was told
+-- nothing is recorded
 abbrev pub IsNewPast : Past → Type 0
 IsNewPast past = (past.back.items ≡ []) × ((past.shut.items ≡ []) × (past.failed.items ≡ []))
 
 -- ---- a stream that lingers
 
--- so many reads are left, and these were made until the peer has ended or the stream failed (`None`), or has nothing more now
--- (`Some false`), or none was left
+-- the reads of a draining stream with this many left: until its end or a failure (`None`), until it would block
+-- (`Some false`), or until none is left (`Some true`)
 abbrev pub Drains : ℕ → List StreamCall → Option Bool → Type 0
 Drains zero calls result = (calls ≡ []) × (result ≡ Some true)
 Drains (suc left) [] result = ⊥
@@ -180,14 +181,14 @@ Drains (suc left) (Receive room (Err WouldBlock) ∷ rest) result = (rest ≡ []
 Drains (suc left) (Receive room (Err Interrupted) ∷ rest) result = Drains left rest result
 Drains (suc left) (Receive room (Err Failed) ∷ rest) result = (rest ≡ []) × (result ≡ None)
 
--- a stream was read so, READS times at most
+-- the stream was drained, in at most `READS` reads
 pub record IsDrained (old new : Option (List StreamCall)) (result : Option Bool) : Type 0 where
   pub calls : List StreamCall
   pub asked : Asks old new calls
   pub due : Drains READS calls result
 
 module _ {S : Type 0} where
-  -- a stream that was drained lingers for the longest, unless its peer has ended
+  -- a drained stream lingers for `LOOKS_MAX` looks, unless its peer has ended or it failed
   abbrev pub LingersAs : ℕ → S → Option Bool → List (LingeringStream S) → List (LingeringStream S)
       → Type 0
   LingersAs number last None old new = new ≡ old
@@ -202,7 +203,7 @@ module _ {S : Type 0} where
     pub drained : IsDrained (calls stream) (calls last) answer
     pub left : LingersAs number last answer old new
 
--- the writing side of a stream was to be shut; if it was, the stream lingers, unless its peer has ended
+-- the writing side of a stream was to be shut; if that succeeded, the stream is drained, and lingers unless its peer has ended or it failed
 pub record LingersOnceShut {S : Type 0} (calls : SocketStream S → Option (List StreamCall))
     (ends : S → Option (List (Result (Unit {0}) StreamFault))) (number : ℕ) (stream : SocketStream S)
     (old new : List (LingeringStream (SocketStream S))) : Type 0 where

@@ -1,11 +1,11 @@
--- What a listener tells by what it noted (own choice).
+-- What a listener tells from its records (own choice).
 use Rattle.std.specs.Prelude.{ℕ, List, None, Some}
 use Rattle.transport.specs.Report.{Report}
 use Rattle.byte_logs.specs.Noted.{is_noted, last_under}
 use Rattle.byte_logs.specs.declared.log.Bytes.{Bytes}
 
--- of a number, the bytes that its last stream took, where that came back; whether it was shut; and whether a call of it
--- has failed
+-- for each number: the bytes that its stream took, once taken back; whether it was shut; and whether a call of it
+-- failed
 abbrev pub told_by : List (ℕ × Bytes) → List (ℕ × Unit {0}) → List (ℕ × Unit {0}) → Report
 told_by back shut failed = record {
   unread = λ number. None;

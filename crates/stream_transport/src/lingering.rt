@@ -225,8 +225,8 @@ impl<S: ByteStream, A: Allocator + Copy> Lingering<S, A> {
         }
     }
 
-    /// Drops all streams, and returns whether there were any. Frees descriptors when an accept
-    /// failed.
+    /// Drops all streams, and returns whether there were any. A failed accept is tried again
+    /// after it.
     pub fn release(&mut self) -> bool
         ensures gone { self.new ≡ [] }
         ensures had { result ≡ true → self.old ≢ [] }

@@ -3,15 +3,15 @@ use Rattle.stream_transport.proofs.Draining.{drained_all, drained_by, drained_mo
 use Rattle.stream_transport.proofs.lingering.drain.Goals as goal
 use Rattle.stream_transport.proofs.lingering.drain.Goals.{in-Ok, in-Err-Interrupted}
 
--- its peer has ended
+-- the peer has ended
 pub returns-in-Ok-eq0-clause-reads : goal.returns-in-Ok-eq0-clause-reads
 returns-in-Ok-eq0-clause-reads g c = drained_by _ (g.S.ByteStream.calls c.loop.stream) _ c.loop.counter _ None c.loop.invariant.reads c.loop-test.true c.receive.ensures.called (stops_ended (length c.loop.buf) c.receive.result c.in-Ok-eq0.field-0 c.in-Ok-eq0.is c.in-Ok-eq0.field-0-test)
 
--- it has nothing more now
+-- the stream would block
 pub returns-in-Err-WouldBlock-clause-reads : goal.returns-in-Err-WouldBlock-clause-reads
 returns-in-Err-WouldBlock-clause-reads g c = drained_by _ (g.S.ByteStream.calls c.loop.stream) _ c.loop.counter _ (Some false) c.loop.invariant.reads c.loop-test.true c.receive.ensures.called (stops_empty (length c.loop.buf) c.receive.result (rw c.in-Err-WouldBlock.field-0-is at c.in-Err-WouldBlock.is))
 
--- it failed
+-- the read failed
 pub returns-in-Err-Failed-clause-reads : goal.returns-in-Err-Failed-clause-reads
 returns-in-Err-Failed-clause-reads g c = drained_by _ (g.S.ByteStream.calls c.loop.stream) _ c.loop.counter _ None c.loop.invariant.reads c.loop-test.true c.receive.ensures.called (stops_failed (length c.loop.buf) c.receive.result (rw c.in-Err-Failed.field-0-is at c.in-Err-Failed.is))
 
@@ -22,7 +22,7 @@ returns-clause-reads g c = drained_all _ _ c.loop.counter c.loop.invariant.reads
 pub loop-init : goal.loop-init
 loop-init g c = record { shut = refl; reads = drained_none (g.S.ByteStream.calls c.args.stream.now) }
 
--- it goes on
+-- the drain goes on
 pub loop-preserved : goal.loop-preserved
 loop-preserved g c = record {
   shut = c.receive.ensures.shut ∙ c.loop.invariant.shut;

@@ -1,6 +1,6 @@
 use Rattle.stream_transport.specs.Held.{AreTakenBelow}
 use Rattle.stream_transport.proofs.places.free_place.Given as goal
 
--- those so far are taken
+-- the places so far are taken
 abbrev pub invariant-loop-place : goal.invariant-loop-place
 invariant-loop-place g l = AreTakenBelow l.fn.places.items l.place

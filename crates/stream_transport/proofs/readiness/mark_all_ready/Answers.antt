@@ -2,7 +2,7 @@ use Rattle.std.proofs.Common.{refl}
 use Rattle.stream_transport.proofs.Waking.{at_end, awake_all, awake_more, awake_none, named_all, named_more, named_none, same_alike, still_alike, still_same, still_then}
 use Rattle.stream_transport.proofs.readiness.mark_all_ready.Goals as goal
 
--- one more is awake, or it is the listener
+-- one more stream is awake, or the listener is marked
 pub loop-place-preserved : goal.loop-place-preserved
 loop-place-preserved g c =
     let named = g.L.Listener.named c.args.listener.now in
@@ -14,7 +14,7 @@ loop-place-preserved g c =
       still = still_then c.args.places.now.items c.loop-place.places.items c.mark_one_ready.new.places.items c.loop-place.invariant.still c.mark_one_ready.ensures.still;
     }
 
--- none so far
+-- nothing is marked yet
 pub loop-place-init : goal.loop-place-init
 loop-place-init g c = record {
   awake = awake_none (g.L.Listener.named c.args.listener.now) c.args.places.now.items;
@@ -24,7 +24,7 @@ loop-place-init g c = record {
   still = still_same c.args.places.now.items c.args.places.now.items (λ n. refl);
 }
 
--- all of them
+-- all that were named are marked
 pub returns-clause-alike : goal.returns-clause-alike
 returns-clause-alike g c = c.loop-place.invariant.alike
 

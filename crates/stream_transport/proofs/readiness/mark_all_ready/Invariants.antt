@@ -4,7 +4,7 @@ use Rattle.stream_transport.specs.Asking.{AreAwakeStill}
 use Rattle.stream_transport.proofs.Waking.{AwakeTo, NamedTo}
 use Rattle.stream_transport.proofs.readiness.mark_all_ready.Given as goal
 
--- those so far are awake, and only what was seen of streams has changed
+-- the streams named so far are awake, and only readiness has changed
 abbrev pub invariant-loop-place : goal.invariant-loop-place
 invariant-loop-place g l = record {
   awake : AwakeTo l.place (g.L.Listener.named l.fn.listener) l.places.items;

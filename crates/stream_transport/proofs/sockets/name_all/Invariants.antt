@@ -5,7 +5,7 @@ use Rattle.mio.specs.Events.{items}
 use Rattle.stream_transport.specs.System.{names_of}
 use Rattle.stream_transport.proofs.sockets.name_all.Given as goal
 
--- those so far are put down, and there is room for the others
+-- the events so far are named, and there is room for the others
 abbrev pub invariant-loop-event : goal.invariant-loop-event
 invariant-loop-event g l = record {
   names : l.ready.items ++ names_of (iter_rest l.event-iterator) ≡ names_of (items l.fn.events);

@@ -1,7 +1,7 @@
 use Rattle.stream_transport.proofs.Telling.{given_else, given_now}
 use Rattle.stream_transport.proofs.wire.note_given.Goals as goal
 
--- what the read gave comes behind what was given before
+-- the bytes of the read follow those given before
 pub returns-clause-given : goal.returns-clause-given
 returns-clause-given c = given_now c.args.log.now.items c.and.result.items c.args.number c.note.new.self c.new-bytes.result.items c.args.given.now c.and.ensures c.note.ensures c.new-bytes.ensures
 

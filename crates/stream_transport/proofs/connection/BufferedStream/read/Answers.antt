@@ -19,7 +19,7 @@ returns-then-most-eq0-clause-written g c = Keeps-refl (g.S.ByteStream.written c.
 pub returns-then-most-eq0-clause-asked : goal.returns-then-most-eq0-clause-asked
 returns-then-most-eq0-clause-asked g c = record { called = λ may none room. absurd (omega (arith, room)); asleep = λ may kept. (refl, refl); awake = λ may found. may; takes = λ may. may }
 
--- what is kept is given
+-- kept bytes are given
 pub returns-then-not-is_empty-clause-unread : goal.returns-then-not-is_empty-clause-unread
 returns-then-not-is_empty-clause-unread g c = gives_kept g.S.ByteStream.unread c.args.self.now (record c.args.self.now { buffer = c.give_line.new.self }) (lent_from c.give_line.new.spare c.give_line.new.self) refl c.give_line.ensures.kept
 
@@ -35,7 +35,7 @@ returns-then-not-is_empty-clause-within g c = (c.give_line.ensures.some (some_le
 pub returns-then-not-is_empty-clause-asked : goal.returns-then-not-is_empty-clause-asked
 returns-then-not-is_empty-clause-asked g c = record { called = λ may none room. absurd (some_left c.args.self.now.buffer.kept c.is_empty.result c.is_empty.ensures.test c.if-not-is_empty.true none); asleep = λ may none. absurd (some_left c.args.self.now.buffer.kept c.is_empty.result c.is_empty.ensures.test c.if-not-is_empty.true none); awake = λ may found. may; takes = λ may. may }
 
--- nothing is asked
+-- the stream is not asked
 pub returns-then-not-self-clause-unread : goal.returns-then-not-self-clause-unread
 returns-then-not-self-clause-unread g c = gives_none g.S.ByteStream.unread c.args.self.now c.args.self.now refl (Keeps-refl (g.S.ByteStream.unread c.args.self.now.stream))
 
@@ -80,7 +80,7 @@ returns-in-Ok-clause-asked g c =
     let len : length c.split_at_mut.result.0.now ≡ c.args.most = ap length c.split_at_mut.ensures.front ∙ length-take-le c.args.most c.deref_mut.result.now room in
     record { called = λ may kept room. inr (c.receive.result, (rw len at c.receive.ensures.called, rw c.in-Ok.is (inr (c.in-Ok.n-test.1, refl), may))); asleep = λ may kept. absurd (let t : c.args.self.now.readable ≡ true = c.if-not-self.false in let f : c.args.self.now.readable ≡ false = may in cc); awake = λ may found. may; takes = λ may. may }
 
--- none came
+-- no byte came
 pub returns-in-Err-WouldBlock-clause-unread : goal.returns-in-Err-WouldBlock-clause-unread
 returns-in-Err-WouldBlock-clause-unread g c = gives_none g.S.ByteStream.unread c.args.self.now (record c.args.self.now { stream = c.receive.new.self; readable = false }) refl c.in-Err-WouldBlock.ensures.bytes
 
@@ -117,7 +117,7 @@ returns-in-Err-Failed-clause-asked g c =
     let len : length c.split_at_mut.result.0.now ≡ c.args.most = ap length c.split_at_mut.ensures.front ∙ length-take-le c.args.most c.deref_mut.result.now room in
     record { called = λ may kept room. inr (c.receive.result, (rw len at c.receive.ensures.called, rw (c.in-Err-Failed.is, c.in-Err-Failed.field-0-is) (refl, may))); asleep = λ may kept. absurd (let t : c.args.self.now.readable ≡ true = c.if-not-self.false in let f : c.args.self.now.readable ≡ false = may in cc); awake = λ may found. may; takes = λ may. may }
 
--- what passed
+-- the bytes the stream gave
 pub returns-then-not-self-clause-came : goal.returns-then-not-self-clause-came
 returns-then-not-self-clause-came g c = passes_none g.S.ByteStream.given c.args.self.now c.args.self.now refl (Keeps-refl (g.S.ByteStream.given c.args.self.now.stream))
 

@@ -19,7 +19,7 @@ returns-then-not-self-clause-asked g c = record {
   gives = λ may. may;
 }
 
--- it took some
+-- the stream took bytes
 pub returns-in-Ok-clause-within : goal.returns-in-Ok-clause-within
 returns-in-Ok-clause-within g c = c.in-Ok.ensures.bound
 
@@ -32,7 +32,7 @@ returns-in-Ok-clause-written g c = c.in-Ok.ensures.bytes
 pub returns-in-Ok-clause-asked : goal.returns-in-Ok-clause-asked
 returns-in-Ok-clause-asked g c = record { called = λ may. (c.send.result, (c.send.ensures.called, rw c.in-Ok.is (refl, may))); asleep = λ may. absurd (let t : c.args.self.now.writable ≡ true = c.if-not-self.false in let f : c.args.self.now.writable ≡ false = may in cc); gives = λ may. may }
 
--- or none
+-- the stream took none
 pub returns-in-Err-WouldBlock-clause-unread : goal.returns-in-Err-WouldBlock-clause-unread
 returns-in-Err-WouldBlock-clause-unread g c = unread_stays c.args.self.now.buffer.kept (g.S.ByteStream.unread c.args.self.now.stream) (g.S.ByteStream.unread c.send.new.self) c.send.ensures.unread
 
@@ -60,7 +60,7 @@ returns-in-Err-Failed-clause-written g c = Appends-none (g.S.ByteStream.written 
 pub returns-in-Err-Failed-clause-asked : goal.returns-in-Err-Failed-clause-asked
 returns-in-Err-Failed-clause-asked g c = record { called = λ may. (c.send.result, (c.send.ensures.called, rw (c.in-Err-Failed.is, c.in-Err-Failed.field-0-is) (refl, may))); asleep = λ may. absurd (let t : c.args.self.now.writable ≡ true = c.if-not-self.false in let f : c.args.self.now.writable ≡ false = may in cc); gives = λ may. may }
 
--- nothing came
+-- no byte came
 pub returns-then-not-self-clause-came : goal.returns-then-not-self-clause-came
 returns-then-not-self-clause-came g c = passes_none g.S.ByteStream.given c.args.self.now c.args.self.now refl (Keeps-refl (g.S.ByteStream.given c.args.self.now.stream))
 

@@ -5,7 +5,7 @@ use Rattle.stream_transport.specs.ReadBuffer.{Buffered, between, lent_by}
 use Rattle.stream_transport.proofs.Giving.{front_and_back, front_line, line_fits, with_rest}
 use Rattle.stream_transport.proofs.kept.ReadBuffer.give_line.Goals as goal
 
--- others are left
+-- bytes are left
 pub returns-else-self-clause-given : goal.returns-else-self-clause-given
 returns-else-self-clause-given g c =
     let within : c.self.inside.end ≤ length c.self.inside.bytes.items = omega (arith, c.self.invariant.within, c.self.inside.bytes.ok) in
@@ -26,7 +26,7 @@ returns-else-self-clause-kept g c =
     let fits : c.self.inside.start + c.min-n.result ≤ c.self.inside.end = line_fits c.self.inside.start c.self.inside.end c.min-n.result c.args.most c.self.inside.bytes.items c.cut_line.result.0.now c.cut_line.result.1.now c.self.invariant.start_before within split c.min-n.ensures in
     ap (λ xs. xs ++ between (c.self.inside.start + c.min-n.result) c.self.inside.end c.self.inside.bytes.items) (with_rest (lent_by c.args.spare.now) c.self.inside.start c.self.inside.end c.min-n.result c.self.inside.bytes.items within fits c.if-self.false) ∙ (front_and_back c.self.inside.start c.self.inside.end c.min-n.result c.self.inside.bytes.items fits ∙ kept)
 
--- all was given
+-- all bytes were given
 pub returns-then-self-clause-given : goal.returns-then-self-clause-given
 returns-then-self-clause-given g c =
     let within : c.self.inside.end ≤ length c.self.inside.bytes.items = omega (arith, c.self.invariant.within, c.self.inside.bytes.ok) in

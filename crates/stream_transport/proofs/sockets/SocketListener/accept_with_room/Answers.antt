@@ -5,7 +5,7 @@ use Rattle.stream_transport.specs.declared.listener.StreamFault.TheVariants.{Fai
 use Rattle.stream_transport.proofs.Calling.{again}
 use Rattle.stream_transport.proofs.sockets.SocketListener.accept_with_room.Goals as goal
 
--- it failed, and is tried once more
+-- the accept failed, and is tried once more
 pub returns-in-Err-Failed-clause-calls : goal.returns-in-Err-Failed-clause-calls
 returns-in-Err-Failed-clause-calls g c =
     let failed : IsAskedOnce c.args.number (g.E.Endpoint.calls c.args.self.now.endpoint) (g.E.Endpoint.calls c.accept_as.new.self.endpoint) (Err Failed) = rw (c.in-Err-Failed.is, c.in-Err-Failed.field-0-is) at c.accept_as.ensures.calls in

@@ -3,7 +3,7 @@ use Rattle.std.specs.IoError.{error_kind}
 use Rattle.stream_transport.specs.Streams.{fault_by}
 use Rattle.stream_transport.proofs.sockets.SocketListener.linger.Goals as goal
 
--- its writing side was shut
+-- the writing side was shut
 pub returns-in-Ok-clause-lingers : goal.returns-in-Ok-clause-lingers
 returns-in-Ok-clause-lingers g c = record {
   last = record c.args.stream { stream = c.end_writing.new.self };
@@ -13,7 +13,7 @@ returns-in-Ok-clause-lingers g c = record {
   lingers = c.linger.ensures.lingers;
 }
 
--- it could not be
+-- the writing side could not be shut
 pub returns-in-Err-clause-lingers : goal.returns-in-Err-clause-lingers
 returns-in-Err-clause-lingers g c = record {
   last = record c.args.stream { stream = c.end_writing.new.self };

@@ -1,7 +1,7 @@
 use Rattle.stream_transport.proofs.Telling.{told_rest, told_taken}
 use Rattle.stream_transport.proofs.sockets.SocketListenerListener.take_back.Goals as goal
 
--- what the stream took was noted
+-- the bytes the stream took were recorded
 pub returns-clause-back : goal.returns-clause-back
 returns-clause-back g c = record {
   left = tt;

@@ -13,7 +13,7 @@ use Rattle.stream_transport.proofs.Reports.{alike_keeps, comes}
 use Rattle.stream_transport.proofs.Waking.{accepted_alike, accepted_one, same_alike, still_comes, still_same, still_then}
 use Rattle.stream_transport.proofs.wire.StreamWire.accept_next.Goals as goal
 
--- the stream has the bytes that were told of its number
+-- the stream has the bytes told of its number
 pub returns-in-Ok-clause-unchanged : goal.returns-in-Ok-clause-unchanged
 returns-in-Ok-clause-unchanged g c =
     let told = g.L.Listener.told in
@@ -25,7 +25,7 @@ returns-in-Ok-clause-unchanged g c =
     let rest : KeepsElse (told old.listener) (told c.accept.new.self) new.number = rw c.new.ensures.number c.in-Ok.ensures.rest in
     comes left taken (given_under old.given.items) (told old.listener) (told c.accept.new.self) old.places.items c.free_place.new.places.items c.insert.new.places.items new.number new (same_alike old.places.items c.free_place.new.places.items c.free_place.ensures.same) c.insert.ensures.if_none c.insert.ensures.held c.insert.ensures.others given rest c.new.ensures.kept
 
--- there is no place
+-- all places are taken
 pub returns-then-place-clause-cause : goal.returns-then-place-clause-cause
 returns-then-place-clause-cause g c = (c.fault.ensures.rises, λ e. c.fault.ensures.risen)
 
@@ -70,7 +70,7 @@ returns-in_default-clause-unchanged g c =
     let old = c.args.self.now in
     alike_keeps g.L.Stream.ByteStream.unread g.L.Stream.ByteStream.written (given_under old.given.items) (told old.listener) (told c.accept.new.self) old.places.items c.free_place.new.places.items (same_alike old.places.items c.free_place.new.places.items c.free_place.ensures.same) c.in-Err.ensures.err
 
--- no memory for a place
+-- memory ran out for a place
 pub returns-in_err-place-clause-awake : goal.returns-in_err-place-clause-awake
 returns-in_err-place-clause-awake g c = still_same c.args.self.now.places.items c.free_place.new.places.items c.free_place.ensures.same
 
@@ -80,7 +80,7 @@ returns-in_err-place-clause-unchanged g c =
     let old = c.args.self.now in
     alike_keeps g.L.Stream.ByteStream.unread g.L.Stream.ByteStream.written (given_under old.given.items) (told old.listener) (told old.listener) old.places.items c.free_place.new.places.items (same_alike old.places.items c.free_place.new.places.items c.free_place.ensures.same) (kept_same (told old.listener))
 
--- the stream comes
+-- the stream gets its number
 pub number_at-number-requires-clause-place : goal.number_at-number-requires-clause-place
 number_at-number-requires-clause-place g c = c.if-place.false
 
@@ -102,7 +102,7 @@ returns-in-Ok-clause-named g c = c.accept.ensures.named
 pub returns-in-Ok-clause-awake : goal.returns-in-Ok-clause-awake
 returns-in-Ok-clause-awake g c = still_then c.args.self.now.places.items c.free_place.new.places.items c.insert.new.places.items (still_same c.args.self.now.places.items c.free_place.new.places.items c.free_place.ensures.same) (still_comes c.free_place.new.places.items c.insert.new.places.items c.new.result.number c.insert.ensures.others c.insert.ensures.if_none (rw c.insert.ensures.held c.new.ensures.awake))
 
--- nobody waits
+-- no client waits
 pub returns-in-WouldBlock-clause-cause : goal.returns-in-WouldBlock-clause-cause
 returns-in-WouldBlock-clause-cause g c = cause_of_ok _ c.args.self.now.failed c.args.self.now.failed (not_below c.args.self.now.failed)
 
@@ -137,6 +137,6 @@ returns-in_err-place-clause-asks g c =
     let failed : c.from_residual.result ≡ Err OutOfMemory = passed_on c.from_residual.result c.in_err-place.field-0.0 OutOfMemory c.from_residual.ensures.1 c.in_err-place.ensures.memory in
     rw failed (asked_no_next (length c.free_place.new.places.items) (g.L.Listener.asked c.args.self.now.listener) (g.L.Listener.asked c.args.self.now.listener) OutOfMemory refl tt)
 
--- in the first place that was free
+-- the new connection has the first free place
 pub returns-in-Ok-clause-first : goal.returns-in-Ok-clause-first
 returns-in-Ok-clause-first g c = first_taken c.free_place.new.places.items c.insert.new.places.items c.number_at-number.result c.in_ok-place.place c.new.result.number (Some c.new.result) c.number_at-number.ensures.place c.new.ensures.number c.insert.ensures.place c.in_ok-place.ensures.least

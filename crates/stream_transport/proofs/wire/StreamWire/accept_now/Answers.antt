@@ -7,7 +7,7 @@ use Rattle.stream_transport.proofs.Reports.{alike_keeps}
 use Rattle.stream_transport.proofs.Waking.{accepted_alike, awake_named, same_alike, still_same, still_then}
 use Rattle.stream_transport.proofs.wire.StreamWire.accept_now.Goals as goal
 
--- a look leaves all that is reported, and so does what is accepted
+-- neither the look nor the new stream changes the report
 pub returns-clause-unchanged : goal.returns-clause-unchanged
 returns-clause-unchanged g c =
     let r = g.L.Stream.ByteStream.unread in
@@ -16,7 +16,7 @@ returns-clause-unchanged g c =
     let w = given_under c.args.self.now.given.items in
     λ n. kept_then (reported r t w (told c.args.self.now.listener) c.args.self.now.places.items) (reported r t w (told c.look-looked.new.self) c.mark_all_ready.new.places.items) (reported r t (given_under c.accept_next-accepted.new.self.given.items) (told c.accept_next-accepted.new.self.listener) c.accept_next-accepted.new.self.places.items) n (alike_keeps g.L.Stream.ByteStream.unread g.L.Stream.ByteStream.written (given_under c.args.self.now.given.items) (g.L.Listener.told c.args.self.now.listener) (g.L.Listener.told c.look-looked.new.self) c.args.self.now.places.items c.mark_all_ready.new.places.items c.mark_all_ready.ensures.alike c.look-looked.ensures.unchanged n) (c.accept_next-accepted.ensures.unchanged n)
 
--- a look, and then the next one who waits
+-- a look, then an accept of the next client
 pub returns-clause-asks : goal.returns-clause-asks
 returns-clause-asks g c = asked_next c.args.self.now.readiness.may_accept _ _ c.args.self.now.next _ _ _ _ c.look-looked.result c.accept_next-accepted.result c.in_ok-answer_as.ensures.answers c.look-looked.ensures.asked c.accept_next-accepted.ensures.asks (rw c.note_accept.ensures (unsure_noted c.accept_next-accepted.result c.accept_next-accepted.new.self.readiness))
 
@@ -47,7 +47,7 @@ returns-clause-holds g c = accepted_alike c.accept_next-accepted.result c.args.s
 pub accept_next-accepted-requires : goal.accept_next-accepted-requires
 accept_next-accepted-requires g c = record { left = c.if-self.false }
 
--- nobody may wait
+-- no client may wait
 pub returns-then-not-self-clause-unchanged : goal.returns-then-not-self-clause-unchanged
 returns-then-not-self-clause-unchanged g c = alike_keeps g.L.Stream.ByteStream.unread g.L.Stream.ByteStream.written (given_under c.args.self.now.given.items) (g.L.Listener.told c.args.self.now.listener) (g.L.Listener.told c.look-looked.new.self) c.args.self.now.places.items c.mark_all_ready.new.places.items c.mark_all_ready.ensures.alike c.look-looked.ensures.unchanged
 
@@ -63,7 +63,7 @@ returns-then-not-self-clause-awake g c = λ left. c.mark_all_ready.ensures.awake
 pub returns-then-not-self-clause-still : goal.returns-then-not-self-clause-still
 returns-then-not-self-clause-still g c = c.mark_all_ready.ensures.still
 
--- a look that failed
+-- the look failed
 pub returns-in_err-answer_as-clause-unchanged : goal.returns-in_err-answer_as-clause-unchanged
 returns-in_err-answer_as-clause-unchanged g c = alike_keeps g.L.Stream.ByteStream.unread g.L.Stream.ByteStream.written (given_under c.args.self.now.given.items) (g.L.Listener.told c.args.self.now.listener) (g.L.Listener.told c.look-looked.new.self) c.args.self.now.places.items c.mark_all_ready.new.places.items c.mark_all_ready.ensures.alike c.look-looked.ensures.unchanged
 

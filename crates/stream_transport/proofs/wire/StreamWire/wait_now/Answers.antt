@@ -58,7 +58,7 @@ returns-clause-awake g c = λ idle none. c.mark_all_ready.ensures.awake
 pub returns-clause-still : goal.returns-clause-still
 returns-clause-still g c = c.mark_all_ready.ensures.still
 
--- what nothing may say is noted until a wait is made
+-- the need for a timeout stays until a wait is made
 pub returns-then-not-idle-clause-unsure : goal.returns-then-not-idle-clause-unsure
 returns-then-not-idle-clause-unsure g c = unsure_stays c.args.self.now.readiness.needs_timeout _ (made_not c.args.idle c.args.self.now.readiness.has_buffered c.if-not-idle.true)
 

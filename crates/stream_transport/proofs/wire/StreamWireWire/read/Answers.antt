@@ -13,7 +13,7 @@ use Rattle.stream_transport.proofs.Placing.{held_as, kept_held, none_kept, none_
 use Rattle.stream_transport.proofs.Reports.{reads_held, reads_missing, reads_none}
 use Rattle.stream_transport.proofs.wire.StreamWireWire.read.Goals as goal
 
--- the stream has said that it has nothing
+-- the connection is quiet
 pub returns-then-is_quiet-clause-read : goal.returns-then-is_quiet-clause-read
 returns-then-is_quiet-clause-read g c = reads_none _ c.args.number _
 
@@ -83,7 +83,7 @@ insert-requires-clause-room g c = subst (λ (k : _). k % PLACES < vec_len c.remo
 pub insert-requires-clause-free : goal.insert-requires-clause-free
 insert-requires-clause-free g c = subst (λ (k : _). IsFree c.remove.new.places.items k) (sym (c.read-got.ensures.number ∙ c.in-Some.ensures.number)) c.in-Some.ensures.free
 
--- what is lent is what it gave
+-- the bytes lent are those the connection gave
 pub returns-clause-within : goal.returns-clause-within
 returns-clause-within g c =
     let same : c.read-got.new.self.number ≡ c.args.number = c.read-got.ensures.number ∙ c.in-Some.ensures.number in

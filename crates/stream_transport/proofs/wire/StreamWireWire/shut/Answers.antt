@@ -3,7 +3,7 @@ use Rattle.stream_transport.specs.Held.{given_under}
 use Rattle.stream_transport.proofs.Reports.{shuts_held}
 use Rattle.stream_transport.proofs.wire.StreamWireWire.shut.Goals as goal
 
--- the listener has the stream back, with what was kept
+-- the listener takes the stream back, with the bytes kept
 pub returns-in-Some-clause-shut : goal.returns-in-Some-clause-shut
 returns-in-Some-clause-shut g c =
     let kept : c.as_slice.result.now ≡ c.in-Some.connection.buffer.kept = search rules in
