@@ -1,4 +1,4 @@
--- Lines of the input that are answered one after another.
+-- The lines of the input, answered one after another.
 use Rattle.std.proofs.Common.{◌≡◌, ◌≢◌, ◌<◌, ◌+◌, ℕ, List, [], ◌∷◌, ◌++◌, Bool, Option, None, Some, Result, Ok, Err, refl, sym, subst, ap, ◌∙◌, append_assoc, append-nil, true, false, length, take, drop, arith}
 use Rattle.std.specs.Prelude.{◌||◌}
 use Rattle.std.specs.List.{list_any}
@@ -47,7 +47,7 @@ answer_is : (number lines : ℕ) (options : MateOptions) (line : Line) (bytes it
 answer_is number lines options line bytes items fresh next same empty is =
     same ∙ (is ∙ (ap (λ xs. xs ++ line_answer options number line) empty ∙ ap (λ (k : ℕ). line_answer options k line) next))
 
--- its answer was written
+-- the answer of the line was written
 pub line_done : (options : MateOptions) (line : Line) (before after : Answered) (number : ℕ) (bad : Bool) (bytes items fresh : List ℕ) (old new : Report) → number ≡ before.lines + 1 → bytes ≡ items → fresh ≡ []
     → (items ≡ fresh ++ line_answer options number line) × (bad ≡ is_bad line) → Says old new bytes → after.lines ≡ number → after.bad ≡ (before.bad || bad) → IsLineAnswered options line before after old new
 line_done options line before after number bad bytes items fresh old new next same empty is said lines_are bad_is = record {
@@ -56,7 +56,7 @@ line_done options line before after number bad bytes items fresh old new next sa
   bad = bad_is ∙ ap (λ (b : Bool). before.bad || b) is.1;
 }
 
--- a prefix of it
+-- a prefix of the answer was written
 pub line_cut : (options : MateOptions) (line : Line) (before : Answered) (number : ℕ) (bad : Bool) (bytes items fresh : List ℕ) (old new : Report) (fault : StdioFault) → number ≡ before.lines + 1 → bytes ≡ items → fresh ≡ []
     → (items ≡ fresh ++ line_answer options number line) × (bad ≡ is_bad line) → SaysPrefix old new bytes fault → IsLineCutShort options line before old new fault
 line_cut options line before number bad bytes items fresh old new fault next same empty is cut =
@@ -64,7 +64,7 @@ line_cut options line before number bad bytes items fresh old new fault next sam
 
 -- ---- a chunk
 
--- before its first line
+-- before the first line of the chunk
 pub part_start : (options : MateOptions) (chunk : List ℕ) (answered : Answered) (old new : Buffer) (r : Report) → IsAheadAfter chunk old new → IsPartAnswered options chunk answered old answered new r r
 part_start options chunk answered old new r after = record {
   made = [];
@@ -73,7 +73,7 @@ part_start options chunk answered old new r after = record {
   bad = λ x. ap (λ (ls : List Line). answered.bad || list_any is_bad ls) (sym (after x));
 }
 
--- one line more
+-- one more line was answered
 pub part_more : (options : MateOptions) (chunk : List ℕ) (before mid after : Answered) (buffered was left : Buffer) (line : Line) (old now new : Report) → IsPartAnswered options chunk before buffered mid was old now → IsFirstAhead was line → IsLineAnswered options line mid after now new
     → ((x : List ℕ) → ahead left x ≡ drop 1 (ahead was x)) → IsPartAnswered options chunk before buffered after left old new
 part_more options chunk before mid after buffered was left line old now new p first one rest = record {
@@ -93,7 +93,7 @@ part_more options chunk before mid after buffered was left line old now new p fi
       ∙ ap (λ (ls : List Line). after.bad || list_any is_bad ls) (sym (rest x)))));
 }
 
--- the line in hand was cut short
+-- the answer of the current line was cut short
 pub part_cut : (options : MateOptions) (chunk : List ℕ) (before mid : Answered) (buffered was : Buffer) (line : Line) (old now new : Report) (fault : StdioFault) → IsPartAnswered options chunk before buffered mid was old now → IsFirstAhead was line → IsLineCutShort options line mid now new fault
     → IsChunkCutShort options chunk before buffered old new fault
 part_cut options chunk before mid buffered was line old now new fault p first cut = λ x.
@@ -106,7 +106,7 @@ part_none options chunk before buffered r = λ x. prefix_none r (owed_answers op
 
 -- ---- the input
 
--- between two reads: what was written and what is owed are the answers
+-- between two reads: the answers are the bytes written and the answers still owed
 pub record IsBetween (options : MateOptions) (before now : Report) (answered : Answered) (buffer : Buffer) : Type 0 where
   pub read : List ℕ
   pub made : List ℕ
@@ -136,7 +136,7 @@ between_more options before mid now new answered after buffer left buf chunk n b
   bad = λ x. sym (p.bad x) ∙ (b.bad (chunk ++ x) ∙ ap (λ xs. list_any is_bad (lines xs)) (sym (append_assoc b.read chunk x)));
 }
 
--- a fault before more was written
+-- a read failed, and no more was written
 pub between_left : {E : Type 0} (options : MateOptions) (before mid new : Report) (answered : Answered) (buffer : Buffer) (buf : List ℕ) (error : E) → IsBetween options before mid answered buffer → Reads mid new (Err error) buf → IsAnsweredInPart options before new
 between_left options before mid new answered buffer buf error b r = record {
   read = b.read;
@@ -171,7 +171,7 @@ between_cut options before mid now new answered buffer buf chunk n fault b r sam
 
 -- ---- the end of the input
 
--- the read that gave nothing
+-- the last read gave no byte
 at_end : {E : Type 0} (options : MateOptions) (before mid now : Report) (answered : Answered) (buffer : Buffer) (buf : List ℕ) (n : ℕ) → IsBetween options before mid answered buffer → Reads {E = E} mid now (Ok n) buf → n ≡ 0 → IsBetween options before now answered buffer
 at_end options before mid now answered buffer buf n b r none =
     let empty : [] ≡ take n buf = sym (ap (λ (k : ℕ). take k buf) none) in
@@ -198,7 +198,7 @@ between_end options before mid now new answered after buffer left buf n b r none
       told = sym (or_none after.bad) ∙ (ap (λ (ls : List Line). after.bad || list_any is_bad ls) (sym a.settled) ∙ (sym (a.part.bad []) ∙ e.bad (LINE_FEED ∷ [])));
     }
 
--- a prefix of its answer was written
+-- a prefix of the last line's answer was written
 pub between_cut_at_end : {E : Type 0} (options : MateOptions) (before mid now new : Report) (answered : Answered) (buffer : Buffer) (buf : List ℕ) (n : ℕ) (fault : StdioFault) → IsBetween options before mid answered buffer → Reads {E = E} mid now (Ok n) buf → n ≡ 0
     → IsChunkCutShort options (LINE_FEED ∷ []) answered buffer now new fault → IsAnsweredInPart options before new
 between_cut_at_end options before mid now new answered buffer buf n fault b r none cut =

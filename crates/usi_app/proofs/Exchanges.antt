@@ -1,4 +1,4 @@
--- What a front end gave and took, one call after another.
+-- The bytes a front end gave and took, call by call.
 use Rattle.std.proofs.Common.{◌≡◌, ◌≤◌, ℕ, List, [], ◌∷◌, ◌++◌, Bool, Option, None, Some, Result, Ok, Err, refl, sym, subst, ap, ◌∙◌, append_assoc, append-nil, true, length, take}
 use Rattle.std.proofs.KnownBytes.{Appends-nil, Appends-trans, Appends-kept, Consumes-nil, Consumes-trans, Consumes-kept}
 use Rattle.usi_stdio.specs.Calls.{Call, FailedRead, Gives, Read, Reads, Report, Takes, given_by, of_calls, taken_by}
@@ -56,7 +56,7 @@ exchange_said f o old mid new read written bytes b said = record {
 pub prefix_none : (r : Report) (bytes : List ℕ) → SaysPrefix r r bytes OutOfMemory
 prefix_none r bytes = (bytes, record { done = []; is_flushed = true; said = says_nothing r; split = refl })
 
--- a prefix behind what was written
+-- a prefix was written behind earlier bytes
 pub prefix_then : (old mid new : Report) (made bytes more all : List ℕ) (fault : StdioFault) → Says old mid made → SaysPrefix mid new bytes fault → all ≡ made ++ (bytes ++ more) → SaysPrefix old new all fault
 prefix_then old mid new made bytes more all fault said (left, but) e = (
   left ++ more,

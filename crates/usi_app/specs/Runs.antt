@@ -1,4 +1,4 @@
--- What the program does over a front end, and the status with which it ends then (own choice).
+-- The runs over a front end, with their exit status (own choice).
 use Rattle.std.specs.Prelude.{◌≡◌, ℕ, List, Result, Ok, Err, IfErr, OnErr, OnOk}
 use Rattle.usi_replay.specs.declared.fault.ReplayFault.{ReplayFault}
 use Rattle.usi_replay.specs.declared.fault.ReplayFault.TheVariants.{OutOfMemory, ReadFailed, WriteFailed, BadScript}
@@ -11,7 +11,7 @@ use Rattle.usi_stdio.specs.Saying.{Says, SaysPrefix}
 use Rattle.usi_stdio.specs.Stdio.{IsLeft, IsServed}
 use Rattle.usi_texts.specs.declared.setup.Setup.{Setup}
 
--- 0 where it was done, and 1 after a fault
+-- 0 for success, 1 after a fault
 abbrev pub ended_status : Result (Unit {0}) StdioFault → ℕ
 ended_status (Ok done) = 0
 ended_status (Err fault) = 1
@@ -23,13 +23,13 @@ replay_status OutOfMemory = 1
 replay_status ReadFailed = 1
 replay_status WriteFailed = 1
 
--- 0 where a script was replayed, and else the status of its fault
+-- 0 for a replayed script, otherwise the status of its fault
 abbrev pub replayed_status : Result (Unit {0}) ReplayFault → ℕ
 replayed_status (Ok done) = 0
 replayed_status (Err fault) = replay_status fault
 
--- the front end was served one session under the setup, with this status: all replies to what was read were written, or a prefix of them
--- after a fault, and the calls are a dialogue; a new table with room for so many entries was told each search of what was read
+-- one session was served under the setup: all replies to the input were written, or a prefix of them after a fault;
+-- the calls are a dialogue, and a new table with `entries` entries was told each search
 pub record IsSession (setup : Setup) (entries : ℕ) (old new : Report) (status : ℕ) : Type 0 where
   pub ended : Result (Unit {0}) StdioFault
   pub ok : OnOk ended (IsServed setup old new)
@@ -38,7 +38,8 @@ pub record IsSession (setup : Setup) (entries : ℕ) (old new : Report) (status 
   pub table : OnOk ended (TellsTable setup entries old new)
   pub status_is : status ≡ ended_status ended
 
--- what was read is a script, and its output under the setup was written and flushed, with this status; or it is bad, or a fault came; and the calls are a replay
+-- a script was read, and its output under the setup written and flushed; or it was bad, or a fault came; the calls
+-- are a replay
 pub record IsReplay (setup : Setup) (slots : ℕ) (old new : Report) (status : ℕ) : Type 0 where
   pub ended : Result (Unit {0}) ReplayFault
   pub ok : OnOk ended (Replays setup slots old new)
@@ -46,12 +47,12 @@ pub record IsReplay (setup : Setup) (slots : ℕ) (old new : Report) (status : �
   pub calls : Recites setup slots old.calls new.calls ended
   pub status_is : status ≡ replayed_status ended
 
--- where the status says that it was done, a new host of these numbers played the script
+-- with status 0, a new host with these slots, entries and slice played the script
 abbrev pub IsReplayOn : Setup → (slots entries slice : ℕ) → Report → Report → ℕ → Type 0
 IsReplayOn setup slots entries slice old new status =
     status ≡ 0 → ReplaysAsked setup slots entries slice old new
 
--- a text was written and flushed, and nothing was read, with this status; or a prefix of it, after a fault
+-- a text was written and flushed, or a prefix of it after a fault; nothing was read
 pub record IsPrint (text : List ℕ) (old new : Report) (status : ℕ) : Type 0 where
   pub ended : Result (Unit {0}) StdioFault
   pub ok : OnOk ended (Says old new text)

@@ -6,7 +6,7 @@ use Rattle.host_core.specs.declared.event.HostFault.{HostFault}
 use Rattle.transport.specs.declared.wire.WireFault.{WireFault}
 use Rattle.transport.specs.declared.wire.WireFault.TheVariants as wires
 
--- the text on standard error
+-- the text for standard error
 abbrev pub serve_complaint : ServeFault → List ℕ
 serve_complaint faults.OutOfMemory = codes "usi_host: out of memory\n"
 serve_complaint faults.ReadFailed = codes "usi_host: read failed\n"
@@ -21,11 +21,11 @@ serve_complaint faults.StatusTaken =
 serve_complaint faults.StatusLeft =
     codes "usi_host: status socket failed: nobody listens at it; remove it, and start again\n"
 
--- a host that can't be made wants memory
+-- a host that cannot be made lacks memory
 abbrev pub of_host : HostFault → ServeFault
 of_host fault = faults.OutOfMemory
 
--- what a wire answers, as the fault of a run
+-- a wire's fault as a fault of the run
 abbrev pub of_wire : WireFault → ServeFault
 of_wire wires.Device = faults.SocketFailed
 of_wire wires.OutOfMemory = faults.OutOfMemory
@@ -34,7 +34,7 @@ of_wire wires.OutOfMemory = faults.OutOfMemory
 abbrev pub serve_status : ServeFault → ℕ
 serve_status fault = 1
 
--- a fault of the socket, whatever stands at its path
+-- a fault of the socket
 abbrev pub IsOfSocket : ServeFault → Type 0
 IsOfSocket faults.OutOfMemory = ⊥
 IsOfSocket faults.ReadFailed = ⊥
@@ -45,7 +45,7 @@ IsOfSocket faults.StatusFailed = ⊥
 IsOfSocket faults.StatusTaken = ⊥
 IsOfSocket faults.StatusLeft = ⊥
 
--- a fault of the socket of the status
+-- a fault of the status socket
 abbrev pub IsOfStatus : ServeFault → Type 0
 IsOfStatus faults.OutOfMemory = ⊥
 IsOfStatus faults.ReadFailed = ⊥

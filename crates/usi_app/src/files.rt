@@ -1,4 +1,4 @@
-//! How many files the host may open.
+//! The limit on open files, compared with the number of slots.
 
 ghost use Rattle.std.specs.Prelude.{◌≡◌, ◌-◌, nat_lt};
 ghost use Rattle.usi_app.specs.declared.files.TheConstants.{OTHER_FILES};
@@ -6,10 +6,10 @@ ghost use Rattle.usi_app.specs.declared.files.TheConstants.{OTHER_FILES};
 use libc::types::rlimit;
 use libc::{RLIMIT_NOFILE, getrlimit};
 
-/// How many files a host wants beside one for each slot.
+/// Files that a host opens beside one for each slot.
 const OTHER_FILES: u64 = 10;
 
-/// How many files this process may have open, where the system tells.
+/// The most files this process may have open (the soft limit), if the system tells.
 fn files_allowed() -> Option<u64> {
     let mut limit = rlimit {
         rlim_cur: 0,
@@ -22,14 +22,15 @@ fn files_allowed() -> Option<u64> {
     }
 }
 
-/// Whether so many files are too few for so many slots.
+/// Whether `files` are fewer than `slots` connections and `OTHER_FILES` more need.
 fn are_few(files: u64, slots: u64) -> bool
     ensures { result ≡ nat_lt (files - slots) OTHER_FILES }
 {
     files.saturating_sub(slots) < OTHER_FILES
 }
 
-/// Tells standard error where this process may open fewer files than a host of so many slots wants.
+/// Warns on standard error if this process may open fewer files than a host with `slots` slots
+/// needs.
 pub fn warn_of_files<E: Eprint>(errors: &E, slots: u64) {
     let Some(files) = files_allowed() else {
         return;

@@ -1,4 +1,4 @@
-//! The runs of the program `usi_host`, each with its exit status.
+//! The runs of the program `usi_host`; each returns the exit status.
 #![tactic(auto)]
 
 mod counts;

@@ -1,4 +1,4 @@
-//! What the program does over a front end.
+//! The runs over a front end: a session, a script, and a text to print.
 
 ghost use Rattle.std.specs.Prelude.{◌≡◌, ◌≤◌};
 ghost use Rattle.session_slots.specs.declared.limits.TheConstants.{SESSIONS_MAX};
@@ -10,16 +10,16 @@ use usi_replay::{ReplayFault, replay_with_setup};
 use usi_stdio::{FrontEnd, StdioFault, stdio_with_setup, write_out};
 use usi_texts::Setup;
 
-/// The status of what was done.
+/// Exit status of success.
 pub const DONE: u8 = 0;
 
-/// The status of a run that ended early.
+/// Exit status of a fault.
 pub const FAULT: u8 = 1;
 
-/// The status of a script that has a bad line.
+/// Exit status of a script with a bad line.
 const BAD_SCRIPT: u8 = 3;
 
-/// Tells standard error why a run ended early, if it did, and gives the status.
+/// The exit status of a run; a fault is written to standard error.
 fn status_of_run<E: Eprint>(errors: &E, ended: &Result<(), StdioFault>) -> u8
     ensures { result ≡ ended_status ended.now }
 {
@@ -32,7 +32,7 @@ fn status_of_run<E: Eprint>(errors: &E, ended: &Result<(), StdioFault>) -> u8
     }
 }
 
-/// The status of a script that was not replayed.
+/// The exit status of a script that was not replayed.
 fn status_of(fault: &ReplayFault) -> u8
     ensures { result ≡ replay_status fault.now }
 {
@@ -42,7 +42,8 @@ fn status_of(fault: &ReplayFault) -> u8
     }
 }
 
-/// One session under a setup over a front end. Gives the status, and tells standard error of a fault.
+/// Serves one session under `setup`, with a table of `entries` entries. Returns 0, or 1 after a
+/// fault, which is written to standard error.
 pub fn session<E: Eprint, A: Allocator + Copy, T: FrontEnd>(
     errors: &E,
     alloc: A,
@@ -59,8 +60,9 @@ pub fn session<E: Eprint, A: Allocator + Copy, T: FrontEnd>(
     status_of_run(errors, &ended)
 }
 
-/// A script over a front end, which has its output, with sessions under a setup. Gives the status,
-/// and tells standard error of a fault.
+/// Replays a script, which the front end gives and whose output it takes, with sessions under
+/// `setup`. Returns 0, 3 for a bad script, or 1 after another fault; a fault is written to standard
+/// error.
 pub fn script<E: Eprint, A: Allocator + Copy, T: FrontEnd>(
     errors: &E,
     alloc: A,
@@ -88,7 +90,7 @@ pub fn script<E: Eprint, A: Allocator + Copy, T: FrontEnd>(
     }
 }
 
-/// Writes a text that was asked for. Gives the status, and tells standard error of a fault.
+/// Writes a text and flushes it. Returns 0, or 1 after a fault, which is written to standard error.
 pub fn print_out<E: Eprint, T: FrontEnd>(errors: &E, front_end: &mut T, text: &[u8]) -> u8
     ensures { IsPrint text.now (T.report front_end.old) (T.report front_end.new) result }
 {

@@ -1,4 +1,4 @@
-//! Why the host on a socket ended early.
+//! Why a host on a socket ended early, or never began.
 
 ghost use Rattle.std.specs.Prelude.{◌≡◌};
 ghost use Rattle.usi_app.specs.ServeFaults.{of_host, of_wire, serve_complaint, serve_status, IsOfSocket, IsOfStatus};
@@ -13,25 +13,25 @@ use std::net::Net;
 use std::os::unix::fs::FileTypeExt;
 use transport::WireFault;
 
-/// Why the host on a socket ended early.
+/// Why a host on a socket ended early, or never began.
 #[derive(Clone, Copy, Debug, PartialEq, Eq)]
 pub enum ServeFault {
-    /// Memory was refused.
+    /// Memory ran out.
     OutOfMemory,
     /// The system gave no random seed.
     ReadFailed,
-    /// The socket could not be made, or waited for.
+    /// The socket could not be made, or waiting for it failed.
     SocketFailed,
-    /// It could not be made: a process listens at the path.
+    /// The socket could not be made: a process listens at the path.
     SocketTaken,
-    /// It could not be made: the socket at the path has nobody who listens, as that of a host that has
-    /// ended.
+    /// The socket could not be made: nobody listens at the socket at the path, as after a host that
+    /// has ended.
     SocketLeft,
-    /// The socket of the status could not be made.
+    /// The status socket could not be made.
     StatusFailed,
-    /// It could not be made: a process listens at the path.
+    /// The status socket could not be made: a process listens at the path.
     StatusTaken,
-    /// It could not be made: the socket at the path has nobody who listens.
+    /// The status socket could not be made: nobody listens at the socket at the path.
     StatusLeft,
 }
 
@@ -54,7 +54,7 @@ impl From<WireFault> for ServeFault {
     }
 }
 
-/// Whether a socket stands at the path, and not a file of another kind.
+/// Whether the file at the path is a socket.
 fn is_socket<R: Files>(rt: &R, path: &str) -> bool {
     match fs::symlink_metadata(rt, path) {
         Ok(found) => found.file_type().is_socket(),
@@ -62,8 +62,8 @@ fn is_socket<R: Files>(rt: &R, path: &str) -> bool {
     }
 }
 
-/// Why no socket could be made at the path, as far as what stands there tells: a socket that stands
-/// there is connected to, without waiting, and left again.
+/// Why no socket could be made at the path. If a socket stands there, connecting to it without
+/// waiting tells whether a process listens; the connection is closed at once.
 pub fn socket_fault<R: Files + Net>(rt: &R, path: &str) -> ServeFault
     ensures { IsOfSocket result }
 {
@@ -80,7 +80,7 @@ pub fn socket_fault<R: Files + Net>(rt: &R, path: &str) -> ServeFault
     }
 }
 
-/// The same of the socket of the status.
+/// Why no status socket could be made at the path.
 pub fn status_fault<R: Files + Net>(rt: &R, path: &str) -> ServeFault
     ensures { IsOfStatus result }
 {
@@ -92,14 +92,14 @@ pub fn status_fault<R: Files + Net>(rt: &R, path: &str) -> ServeFault
 }
 
 impl ServeFault {
-    /// The status with which the program ends.
+    /// The exit status: 1 for each fault.
     pub fn status(self) -> u8
         ensures { result ≡ serve_status self }
     {
         FAULT
     }
 
-    /// The text for standard error.
+    /// The text for standard error, with its LF.
     pub fn complaint(self) -> &'static str
         ensures { result.now ≡ serve_complaint self }
     {

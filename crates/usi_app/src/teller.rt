@@ -1,4 +1,4 @@
-//! How far a long run is, for a terminal.
+//! Progress messages of long runs.
 
 use mate_search::MateProgress;
 use shogi_core::Move;
@@ -7,16 +7,17 @@ use std::rt::Clock;
 use std::time::Instant;
 use usi_moves::Progress;
 
-/// Tells a terminal how far a count is, or a search for a mate.
+/// Tells a terminal how far a count or a search for mate has come.
 #[derive(Drop)]
 pub(crate) struct Teller<'a, E> {
     errors: &'a E,
-    /// When it began or told something last; `None` if nothing is told.
+    /// Time of the last message, or of the start; `None` if nothing is to be told.
     told: Option<Instant>,
 }
 
 impl<'a, E: Eprint + Clock> Teller<'a, E> {
-    /// It tells something at most once a second, and nothing unless `tells` is set.
+    /// A teller of at most one message a second; of none unless `tells` is set, or if the clock
+    /// fails.
     pub(crate) fn new(errors: &'a E, tells: bool) -> Self {
         Teller {
             errors,
@@ -28,7 +29,7 @@ impl<'a, E: Eprint + Clock> Teller<'a, E> {
         }
     }
 
-    /// Whether a second passed since it told something; if so, it counts as told now.
+    /// Whether a second has passed since the last message; if so, the next second begins now.
     fn is_due(&mut self) -> bool {
         let Some(told) = self.told else {
             return false;
@@ -57,7 +58,7 @@ impl<'a, E: Eprint + Clock> MateProgress for Teller<'a, E> {
     }
 }
 
-/// Whether a second passed since then.
+/// Whether a second has passed since `then`.
 fn is_past<E: Clock>(clock: &E, then: Instant) -> bool {
     match then.elapsed(clock) {
         Ok(passed) => passed.as_secs() >= 1,
@@ -65,7 +66,7 @@ fn is_past<E: Clock>(clock: &E, then: Instant) -> bool {
     }
 }
 
-/// Tells how far a count is.
+/// Writes the first move that a count has reached.
 fn tell_counted<E: Eprint>(errors: &E, m: &Move) {
     let text = write_move(*m);
     if let Ok(text) = str::from_utf8(text.as_slice()) {
@@ -73,7 +74,7 @@ fn tell_counted<E: Eprint>(errors: &E, m: &Move) {
     }
 }
 
-/// Tells which first move does not mate with at most n moves after it.
+/// Writes that a first move does not mate within `n` further moves of the attacker.
 fn tell_failed<E: Eprint>(errors: &E, m: &Move, n: u8) {
     let text = write_move(*m);
     let plies = 2 * u16::from(n) + 1;

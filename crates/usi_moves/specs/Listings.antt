@@ -9,16 +9,16 @@ use Rattle.shogi_sfen.specs.MoveTexts.{text_of}
 use Rattle.usi_moves.specs.declared.texts.CountFault.{CountFault}
 use Rattle.usi_moves.specs.declared.texts.CountFault.TheVariants.{OutOfMemory, TooMany}
 
--- where it succeeds, the text was appended
+-- on success the text was appended
 abbrev pub Appends : {A E : Type 0} → Result (Unit {0}) E → Vec ℕ A → Vec ℕ A → List ℕ → Type 0
 Appends result before after text = OnOk result (after.items ≡ before.items ++ text)
 
--- a move as USI writes it
+-- a move in USI notation; nothing without one
 abbrev pub some_text : Option Move → List ℕ
 some_text None = []
 some_text (Some m) = text_of m
 
--- the move of a code
+-- the move of a code in USI notation
 abbrev pub code_text : ℕ → List ℕ
 code_text code = some_text (move_of code)
 
@@ -38,21 +38,21 @@ moves_text p = lines_of (legal_codes p)
 abbrev pub count_text : ℕ → List ℕ
 count_text count = decimal count ++ codes "\n"
 
--- where they are divided, the line of a first move with its count
+-- the line of a first move with its count, if counts are divided
 abbrev pub share_text : Bool → ℕ → ℕ → List ℕ
 share_text divide code count = cond divide (code_text code ++ (codes ": " ++ count_text count)) []
 
--- the lines of these first moves, each followed by n moves more
+-- the lines of these first moves, each with the number of sequences of `n` further moves
 abbrev pub shares_text : Shogi → ℕ → Bool → List ℕ → List ℕ
 shares_text p n divide moves =
     flat_map (λ code. share_text divide code (perft (after_code p code) n)) moves
 
--- `perft`: how many sequences of n legal moves there are, and before it, where they are divided, how many begin with
--- each legal move, in the order of codes
+-- `perft`: if counts are divided, a line for each legal move, in the order of codes; then the number of sequences of
+-- `n` legal moves
 abbrev pub perft_text : Shogi → ℕ → Bool → List ℕ
 perft_text p n divide = shares_text p (n - 1) divide (legal_codes p) ++ count_text (perft p n)
 
--- where it says so, there are 2^64 or more
+-- the count fails as too large only if there are 2^64 sequences or more
 abbrev pub IsTooMany : Shogi → ℕ → Result (Unit {0}) CountFault → Type 0
 IsTooMany p n (Ok done) = ⊤
 IsTooMany p n (Err OutOfMemory) = ⊤
