@@ -77,7 +77,7 @@ fn retain_open<A: Allocator>(held: &mut Vec<Connection, A>)
     held.retain(|connection| !connection.is_shut);
 }
 
-/// Writes `info string host full` in one write, which may take only a part, and shuts the connection.
+/// Writes `info string host full`, or a part of it, in one write, and shuts the connection.
 fn reject<W: Wire>(wire: &mut W, number: u64)
     ensures asked { IsAsked W.Wire wire.old wire.new (Write number host_full ∷ Shut number ∷ []) }
     ensures away { IsShutAfterPrefix (W.bound wire.old) host_full (W.report wire.old)
@@ -257,10 +257,10 @@ impl<A: Allocator + Copy> Loop<A> {
     /// wire and all sessions from this host, from the first turn on.
     ///
     /// Over a wire that reports its bytes, a turn writes to a connection what its session owes for
-    /// the bytes read, less what it still owes. A connection shut in the turn got a prefix of it,
-    /// and one that found the host full a prefix of `info string host full`. A connection is shut
-    /// only for its own failed read or write, for a feed of its session that ran out of memory, or
-    /// when it is finished with.
+    /// the bytes read, less what it still owes; if it is shut, a prefix of what is owed. A connection
+    /// that found the host full gets a prefix of `info string host full`. A connection is shut only
+    /// for its own failed read or write, for a feed of its session that ran out of memory, or when
+    /// it is finished with.
     pub fn turn<W: Wire, S: BuildHasher>(&mut self, host: &mut Host<S, A>, wire: &mut W) -> Turn
         requires fits { Fits (links_of self.old.held) (W.bound wire.old) host.old }
         ensures turn { Over W.Wire (Turns self.old.slice result.moved result.tally)
