@@ -257,10 +257,10 @@ impl<A: Allocator + Copy> Loop<A> {
     /// wire and all sessions from this host, from the first turn on.
     ///
     /// Over a wire that reports its bytes, a turn writes to a connection what its session owes for
-    /// the bytes read, less what it still owes; if it is shut, a prefix of what is owed. A connection
-    /// that found the host full gets a prefix of `info string host full`. A connection is shut only
-    /// for its own failed read or write, for a feed of its session that ran out of memory, or when
-    /// it is finished with.
+    /// the bytes read, less what it still owes; if it is shut, a prefix of what is owed. A
+    /// connection that found the host full gets a prefix of `info string host full`. A connection is
+    /// shut only for its own failed read or write, for a feed of its session that ran out of memory,
+    /// or when it is finished with.
     pub fn turn<W: Wire, S: BuildHasher>(&mut self, host: &mut Host<S, A>, wire: &mut W) -> Turn
         requires fits { Fits (links_of self.old.held) (W.bound wire.old) host.old }
         ensures turn { Over W.Wire (Turns self.old.slice result.moved result.tally)
