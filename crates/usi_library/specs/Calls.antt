@@ -1,11 +1,12 @@
 -- What the calls make of a session (own choice).
 use Rattle.std.specs.Prelude.{◌≡◌, ◌≢◌, ◌≤◌, ◌<◌, ◌+◌, ℕ, List, ◌++◌, length, take, drop, min, true, false, Option, None, Some, Result, OnOk}
 use Rattle.shared_table.specs.Recent.{new_table}
-use Rattle.shared_table.specs.Uses.{IsUsed}
+use Rattle.shared_table.specs.Uses.{IsUsed, answers_of}
 use Rattle.shared_table.specs.declared.table.TheConstants.{CAPACITY_MAX}
 use Rattle.usi_texts.specs.Setup.{default_setup}
 use Rattle.usi_texts.specs.declared.setup.Setup.{Setup}
 use Rattle.usi_session.specs.Due.{SessionView, due, state_due, load, new_session_under, wants_input, is_pending, EndsSearches, IsSameAfter, HasSpent}
+use Rattle.usi_session.specs.Known.{IsAllKnown}
 use Rattle.usi_session.specs.WholeLines.{GrowsByLines}
 use Rattle.usi_session.specs.declared.limits.TheConstants.{CHUNK_MAX}
 use Rattle.usi_library.specs.Setups.{IsNumbered}
@@ -92,6 +93,14 @@ TellsTable old new =
 -- the same of what is open in a session of C
 abbrev pub TellsItsTable : UsiSession → UsiSession → Type 0
 TellsItsTable old new = HoldsOf (open_in old) (open_in new) TellsTable
+
+-- where its table has the value of all that it has still to search, along pvs with one line, the work makes no step, and nothing
+-- is pending once it is done
+abbrev pub NeedsNoStep : UsiAnswer → UsiSession → UsiSession → Type 0
+NeedsNoStep answer old new =
+    HoldsOf (open_in old) (open_in new) (λ before after.
+    IsAllKnown (answers_of before.table) before.session → answer.status ≡ USI_OK
+    → (answer.count ≡ 0) × (is_pending after.session ≡ false))
 
 -- the first n queued bytes are gone from the queue and from what is owed, and nothing else changed
 abbrev pub IsTaken : ℕ → SessionView → SessionView → Type 0

@@ -3,7 +3,7 @@
 ghost use Rattle.std.specs.Prelude.{◌≡◌, ◌≢◌, ◌≤◌, ◌<◌, ℕ, [], None, Some};
 ghost use Rattle.shared_table.specs.declared.table.TheConstants.{CAPACITY_MAX};
 ghost use Rattle.usi_session.specs.Due.{due, state_due, IsSameAfter};
-ghost use Rattle.usi_library.specs.Calls.{closed_answer, open_in, AnswersFeed, FailsForMemory, IsCapacity, IsEnough, IsFedOnOk, IsMoved, IsNothing, IsSeen, KeepsTable, LowersLoad, Opens, OpensNumbered, OpensUnder, QueuesLines, SpendsAll, TellsItsTable, WhereOpen};
+ghost use Rattle.usi_library.specs.Calls.{closed_answer, open_in, AnswersFeed, FailsForMemory, IsCapacity, IsEnough, IsFedOnOk, IsMoved, IsNothing, IsSeen, KeepsTable, LowersLoad, NeedsNoStep, Opens, OpensNumbered, OpensUnder, QueuesLines, SpendsAll, TellsItsTable, WhereOpen};
 ghost use Rattle.usi_library.specs.Setups.{setup_refusal};
 ghost use Rattle.usi_library.specs.declared.status.TheConstants.{USI_OK, USI_CLOSED, USI_IS_OPEN, USI_OUT_OF_RANGE};
 
@@ -163,7 +163,7 @@ pub extern "C" fn usi_feed(session: &mut UsiSession, bytes: &[u8]) -> u32
 
 /// Answers what is pending, with at most so many steps of search, and counts the steps made. Where
 /// something is pending still, the steps were used up. The table of the session is told what each
-/// search found. After `USI_OUT_OF_MEMORY`, which counts none, what is owed is as it was, and the
+/// search found, and with one line no step is made for what it has exactly. After `USI_OUT_OF_MEMORY`, which counts none, what is owed is as it was, and the
 /// next call continues.
 #[unsafe(no_mangle)]
 pub extern "C" fn usi_work(session: &mut UsiSession, steps: u64) -> UsiAnswer
@@ -179,6 +179,7 @@ pub extern "C" fn usi_work(session: &mut UsiSession, steps: u64) -> UsiAnswer
     ensures enough { WhereOpen session.old session.new (IsEnough steps result) }
     ensures grown { WhereOpen session.old session.new QueuesLines }
     ensures told { TellsItsTable session.old session.new }
+    ensures known { NeedsNoStep result session.old session.new }
     ensures err { result.status ≢ USI_OK → result.count ≡ 0 }
 {
     let Some(mut open) = session.take_out() else {

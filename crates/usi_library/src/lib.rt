@@ -15,7 +15,7 @@ pub use calls::{
     usi_work,
 };
 pub use handle::UsiSession;
-pub use laws::numbers;
+pub use laws::{numbers, replies_by_calls};
 pub use setup::{USI_EVAL_EXCHANGE, USI_EVAL_HAND, USI_EVAL_PLAIN};
 pub use status::{
     USI_CLOSED, USI_DEPTH_ABOVE_MAX, USI_DEPTH_OUT_OF_RANGE, USI_IS_OPEN, USI_LINES_OUT_OF_RANGE,

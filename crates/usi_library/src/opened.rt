@@ -1,9 +1,11 @@
 //! An open session with the table of its searches.
 
-ghost use Rattle.std.specs.Prelude.{◌≡◌, ◌≢◌, ◌≤◌, ◌+◌, ℕ, List, IfOk, OnErr};
+ghost use Rattle.std.specs.Prelude.{◌≡◌, ◌≢◌, ◌≤◌, ◌+◌, ℕ, List, IfOk, OnErr, false};
 ghost use Rattle.shared_table.specs.Recent.{new_table};
+ghost use Rattle.shared_table.specs.Uses.{answers_of};
 ghost use Rattle.shared_table.specs.declared.table.TheConstants.{CAPACITY_MAX};
-ghost use Rattle.usi_session.specs.Due.{due, state_due, load, new_session_under, HasSpent};
+ghost use Rattle.usi_session.specs.Due.{due, state_due, load, new_session_under, is_pending, HasSpent};
+ghost use Rattle.usi_session.specs.Known.{IsAllKnown};
 ghost use Rattle.usi_session.specs.WholeLines.{GrowsByLines};
 ghost use Rattle.usi_library.specs.Calls.{AnswersFeed, IsFed, IsMoved, Settles, TellsTable};
 ghost use Rattle.usi_library.specs.declared.status.TheConstants.{USI_OK};
@@ -68,6 +70,8 @@ impl Opened {
         ensures enough { Settles steps result self.old.session self.new.session }
         ensures grown { GrowsByLines self.old.session.queued self.new.session.queued }
         ensures told { TellsTable self.old self.new }
+        ensures known { IsAllKnown (answers_of self.old.table) self.old.session
+            → IfOk result (λ made. (made ≡ 0) × (is_pending self.new.session ≡ false)) }
         ensures err { OnErr result (load self.new.session ≤ load self.old.session) }
     {
         self.session.work(&mut self.table, steps)
