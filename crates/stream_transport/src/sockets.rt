@@ -115,10 +115,13 @@ impl<S: Socket> ByteStream for SocketStream<S> {
 
     fn receive(&mut self, buf: &mut [u8]) -> Result<usize, StreamFault>
         ensures bound { ReadsAtMost result buf.new }
-        ensures bytes { Receives ⟦<Self as ByteStream>⟧.unread self.old self.new result buf.new }
-        ensures gave { WriteAppends (Some self.old.given.items) (Some self.new.given.items) result buf.new }
+        ensures bytes { Receives ⟦<Self as ByteStream>⟧.unread
+            self.old self.new result buf.new }
+        ensures gave { WriteAppends (Some self.old.given.items) (Some self.new.given.items)
+            result buf.new }
         ensures written { Keeps (Some self.old.written.items) (Some self.new.written.items) }
-        ensures called { Asks (Some (firsts self.old.calls.items)) (Some (firsts self.new.calls.items))
+        ensures called { Asks
+            (Some (firsts self.old.calls.items)) (Some (firsts self.new.calls.items))
             (Receive (length buf.old) result ∷ []) }
         ensures shut { S.is_shut self.new.stream ≡ S.is_shut self.old.stream }
         ensures made { Asks (S.calls self.old.stream) (S.calls self.new.stream)
@@ -136,11 +139,13 @@ impl<S: Socket> ByteStream for SocketStream<S> {
 
     fn send(&mut self, buf: &[u8]) -> Result<usize, StreamFault>
         ensures bound { WritesAtMost result buf.now }
-        ensures bytes { WriteAppends (Some self.old.written.items) (Some self.new.written.items) result buf.now }
+        ensures bytes { WriteAppends (Some self.old.written.items) (Some self.new.written.items)
+            result buf.now }
         ensures unread { Keeps (⟦<Self as ByteStream>⟧.unread self.old)
             (⟦<Self as ByteStream>⟧.unread self.new) }
         ensures given { Keeps (Some self.old.given.items) (Some self.new.given.items) }
-        ensures called { Asks (Some (firsts self.old.calls.items)) (Some (firsts self.new.calls.items))
+        ensures called { Asks
+            (Some (firsts self.old.calls.items)) (Some (firsts self.new.calls.items))
             (Send (length buf.now) result ∷ []) }
         ensures shut { S.is_shut self.new.stream ≡ S.is_shut self.old.stream }
         ensures made { Asks (S.calls self.old.stream) (S.calls self.new.stream)
@@ -329,7 +334,8 @@ impl<E: Endpoint, A: Allocator + Copy> SocketListener<E, A> {
         ensures asked { self.new.asked ≡ self.old.asked }
         ensures past { self.new.past ≡ self.old.past }
         ensures named { self.new.ready.items ≡ self.old.ready.items }
-        ensures lingers { LingersOnceShut ⟦<SocketStream<E::Stream> as ByteStream>⟧.calls E.Stream.ends
+        ensures lingers { LingersOnceShut
+            ⟦<SocketStream<E::Stream> as ByteStream>⟧.calls E.Stream.ends
             number stream self.old.lingering self.new.lingering }
     {
         let mut stream = stream;
@@ -392,8 +398,10 @@ impl<E: Endpoint, A: Allocator + Copy> SocketListener<E, A> {
     pub fn watch(&mut self, other: &mut E::Listener) -> io::Result<E::Watcher>
         ensures calls { Watches WATCHED
             (E.calls self.old.endpoint) (E.calls self.new.endpoint) (outcome_by result) }
-        ensures told { ⟦<Self as Listener>⟧.told self.new ≡ ⟦<Self as Listener>⟧.told self.old }
-        ensures asked { ⟦<Self as Listener>⟧.asked self.new ≡ ⟦<Self as Listener>⟧.asked self.old }
+        ensures told { ⟦<Self as Listener>⟧.told self.new
+            ≡ ⟦<Self as Listener>⟧.told self.old }
+        ensures asked { ⟦<Self as Listener>⟧.asked self.new
+            ≡ ⟦<Self as Listener>⟧.asked self.old }
         ensures lingering { self.new.lingering ≡ self.old.lingering }
     {
         match self.endpoint.name_listener(other, WATCHED) {
@@ -412,7 +420,8 @@ impl<E: Endpoint, A: Allocator + Copy> SocketListener<E, A> {
         ensures made { IsAskedToBind path.now (B.calls binder.old) (B.calls binder.new) result }
         ensures named { IfOk result (λ listener. IsAskedAnew E.calls listener.endpoint
             (NameListener LISTENER (Ok tt) ∷ [])) }
-        ensures nobody { IfOk result (λ listener. (listener.lingering ≡ []) × (listener.ready.items ≡ [])) }
+        ensures nobody { IfOk result
+            (λ listener. (listener.lingering ≡ []) × (listener.ready.items ≡ [])) }
         ensures asked { IfOk result (λ listener. listener.asked.items ≡ []) }
         ensures past { IfOk result (λ listener. IsNewPast listener.past) }
     {
@@ -459,14 +468,19 @@ impl<E: Endpoint, A: Allocator + Copy> Listener for SocketListener<E, A> {
     ghost named = { λ listener. listener.ready.items };
 
     fn accept(&mut self, number: u64) -> Result<SocketStream<E::Stream>, StreamFault>
-        ensures given { HandsOut ⟦<SocketStream<E::Stream> as ByteStream>⟧.unread ⟦<SocketStream<E::Stream> as ByteStream>⟧.written
+        ensures given { HandsOut ⟦<SocketStream<E::Stream> as ByteStream>⟧.unread
+            ⟦<SocketStream<E::Stream> as ByteStream>⟧.written
             (⟦<Self as Listener>⟧.told self.old) number result }
         ensures rest { IfOk result (λ stream. KeepsElse
-            (⟦<Self as Listener>⟧.told self.old) (⟦<Self as Listener>⟧.told self.new) number) }
-        ensures err { OnErr result (KeepsAll (⟦<Self as Listener>⟧.told self.old) (⟦<Self as Listener>⟧.told self.new)) }
-        ensures asked { Asks (⟦<Self as Listener>⟧.asked self.old) (⟦<Self as Listener>⟧.asked self.new)
+            (⟦<Self as Listener>⟧.told self.old)
+            (⟦<Self as Listener>⟧.told self.new) number) }
+        ensures err { OnErr result (KeepsAll
+            (⟦<Self as Listener>⟧.told self.old) (⟦<Self as Listener>⟧.told self.new)) }
+        ensures asked { Asks
+            (⟦<Self as Listener>⟧.asked self.old) (⟦<Self as Listener>⟧.asked self.new)
             (Accept (answer_of result) ∷ []) }
-        ensures named { ⟦<Self as Listener>⟧.named self.new ≡ ⟦<Self as Listener>⟧.named self.old }
+        ensures named { ⟦<Self as Listener>⟧.named self.new
+            ≡ ⟦<Self as Listener>⟧.named self.old }
         ensures calls { IsAskedForOne number self.old.lingering
             (E.calls self.old.endpoint) (E.calls self.new.endpoint) (answer_of result) }
         ensures unused { IfOk result (λ stream. IsUnused (E.Stream.calls stream.stream)) }
@@ -480,9 +494,12 @@ impl<E: Endpoint, A: Allocator + Copy> Listener for SocketListener<E, A> {
     }
 
     fn look(&mut self) -> Result<(), StreamFault>
-        ensures unchanged { KeepsAll (⟦<Self as Listener>⟧.told self.old) (⟦<Self as Listener>⟧.told self.new) }
+        ensures unchanged { KeepsAll
+            (⟦<Self as Listener>⟧.told self.old) (⟦<Self as Listener>⟧.told self.new) }
         ensures nobody { OnErr result (⟦<Self as Listener>⟧.named self.new ≡ []) }
-        ensures asked { Asks (⟦<Self as Listener>⟧.asked self.old) (⟦<Self as Listener>⟧.asked self.new) (Look result ∷ []) }
+        ensures asked { Asks
+            (⟦<Self as Listener>⟧.asked self.old) (⟦<Self as Listener>⟧.asked self.new)
+            (Look result ∷ []) }
         ensures polled { Asks (E.calls self.old.endpoint) (E.calls self.new.endpoint)
             (Polled (Some 0) (items self.new.events) result ∷ []) }
         ensures named { OnOk result (self.new.ready.items ≡ names_of (items self.new.events)) }
@@ -495,9 +512,11 @@ impl<E: Endpoint, A: Allocator + Copy> Listener for SocketListener<E, A> {
     }
 
     fn wait(&mut self, patience: Option<Duration>) -> Result<(), StreamFault>
-        ensures unchanged { KeepsAll (⟦<Self as Listener>⟧.told self.old) (⟦<Self as Listener>⟧.told self.new) }
+        ensures unchanged { KeepsAll
+            (⟦<Self as Listener>⟧.told self.old) (⟦<Self as Listener>⟧.told self.new) }
         ensures nobody { OnErr result (⟦<Self as Listener>⟧.named self.new ≡ []) }
-        ensures asked { Asks (⟦<Self as Listener>⟧.asked self.old) (⟦<Self as Listener>⟧.asked self.new)
+        ensures asked { Asks
+            (⟦<Self as Listener>⟧.asked self.old) (⟦<Self as Listener>⟧.asked self.new)
             (Wait (is_some patience) result ∷ []) }
         ensures polled { IsPolled patience self.old.lingering self.old.is_visited
             (E.calls self.old.endpoint) (E.calls self.new.endpoint) (items self.new.events) result }
@@ -528,14 +547,18 @@ impl<E: Endpoint, A: Allocator + Copy> Listener for SocketListener<E, A> {
     }
 
     fn take_back(&mut self, number: u64, stream: SocketStream<E::Stream>, _kept: &[u8])
-        ensures back { HasBack ⟦<SocketStream<E::Stream> as ByteStream>⟧.unread ⟦<SocketStream<E::Stream> as ByteStream>⟧.written
+        ensures back { HasBack ⟦<SocketStream<E::Stream> as ByteStream>⟧.unread
+            ⟦<SocketStream<E::Stream> as ByteStream>⟧.written
             (⟦<Self as Listener>⟧.told self.new) number _kept.now stream }
-        ensures rest { KeepsElse (⟦<Self as Listener>⟧.told self.old) (⟦<Self as Listener>⟧.told self.new) number }
-        ensures asked { ⟦<Self as Listener>⟧.asked self.new ≡ ⟦<Self as Listener>⟧.asked self.old }
+        ensures rest { KeepsElse (⟦<Self as Listener>⟧.told self.old)
+            (⟦<Self as Listener>⟧.told self.new) number }
+        ensures asked { ⟦<Self as Listener>⟧.asked self.new
+            ≡ ⟦<Self as Listener>⟧.asked self.old }
         ensures calls { E.calls self.new.endpoint ≡ E.calls self.old.endpoint }
         ensures shut { KeepsShut ⟦<SocketStream<E::Stream> as ByteStream>⟧.is_shut
             self.old.lingering self.new.lingering }
-        ensures lingers { LingersOnceShut ⟦<SocketStream<E::Stream> as ByteStream>⟧.calls E.Stream.ends
+        ensures lingers { LingersOnceShut
+            ⟦<SocketStream<E::Stream> as ByteStream>⟧.calls E.Stream.ends
             number stream self.old.lingering self.new.lingering }
     {
         self.past.back = self.past.back.and(&number, &stream.written);

@@ -82,7 +82,8 @@ pub trait Endpoint: Drop {
 
     /// The stream of who waits first at the listener.
     fn accept_one(&mut self, listener: &mut Self::Listener) -> io::Result<Self::Stream>
-        ensures called { Asks (calls self.old) (calls self.new) (Accept (outcome_by result) ∷ []) }
+        ensures called { Asks (calls self.old) (calls self.new)
+            (Accept (outcome_by result) ∷ []) }
         ensures unused { IfOk result (λ stream. IsUnused (Self.Stream.calls stream)) };
 
     /// Has polls name a stream by this number.
@@ -129,7 +130,8 @@ pub trait Watcher: Drop {
 
     /// The stream of who waits first at the listener.
     fn accept_visitor(&mut self, listener: &mut Self::Listener) -> io::Result<Self::Stream>
-        ensures called { Asks (calls self.old) (calls self.new) (Accept (outcome_by result) ∷ []) }
+        ensures called { Asks (calls self.old) (calls self.new)
+            (Accept (outcome_by result) ∷ []) }
         ensures unused { IfOk result (λ stream. IsUnused (Self.Stream.calls stream)) };
 
     /// Has the next poll name the listener when somebody waits.

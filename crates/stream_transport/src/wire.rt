@@ -177,7 +177,8 @@ impl<L: Listener, A: Allocator + Copy> StreamWire<L, A> {
         ensures listener { result.listener ≡ listener }
         ensures asked { ⟦<Self as Wire>⟧.asked result ≡ Some [] }
         ensures readiness { result.readiness ≡ nothing_asked }
-        ensures report { KeepsAll (none_given (L.told listener)) (⟦<Self as Wire>⟧.report result) }
+        ensures report { KeepsAll
+            (none_given (L.told listener)) (⟦<Self as Wire>⟧.report result) }
     {
         StreamWire {
             alloc,
@@ -340,7 +341,8 @@ impl<L: Listener, A: Allocator + Copy> Wire for StreamWire<L, A> {
         ensures sure { OnOk result
             (self.new.readiness.needs_timeout ≡ self.old.readiness.needs_timeout) }
         ensures traffic { self.new.traffic ≡ self.old.traffic }
-        ensures asked { Asks (⟦<Self as Wire>⟧.asked self.old) (⟦<Self as Wire>⟧.asked self.new)
+        ensures asked { Asks
+            (⟦<Self as Wire>⟧.asked self.old) (⟦<Self as Wire>⟧.asked self.new)
             (Accept result ∷ []) }
     {
         let accepted = self.accept_now();
@@ -365,7 +367,8 @@ impl<L: Listener, A: Allocator + Copy> Wire for StreamWire<L, A> {
         ensures readiness { NotesByRead number result self.old self.new }
         ensures traffic { CountsRead self.old self.new
             (given_last ⟦<Self as Wire>⟧ self.new result) }
-        ensures asked { Asks (⟦<Self as Wire>⟧.asked self.old) (⟦<Self as Wire>⟧.asked self.new)
+        ensures asked { Asks
+            (⟦<Self as Wire>⟧.asked self.old) (⟦<Self as Wire>⟧.asked self.new)
             (Read number most ∷ []) }
     {
         note_call(&mut self.asked, WireCall::Read(number, most), &[]);
@@ -395,7 +398,8 @@ impl<L: Listener, A: Allocator + Copy> Wire for StreamWire<L, A> {
 
     fn write(&mut self, number: u64, buf: &[u8]) -> Result<usize, WireFault>
         ensures bound { self.new.next ≡ self.old.next }
-        ensures written { ReportsWrite ⟦<Self as Wire>⟧ self.old self.new number result buf.now }
+        ensures written { ReportsWrite ⟦<Self as Wire>⟧
+            self.old self.new number result buf.now }
         ensures cause { HasCause self.old.failed self.new.failed result }
         ensures absent { held self.old.places.items number ≡ None → result ≡ Err Device }
         ensures asks { L.asked self.new.listener ≡ L.asked self.old.listener }
@@ -406,7 +410,8 @@ impl<L: Listener, A: Allocator + Copy> Wire for StreamWire<L, A> {
         ensures others { HoldsOthers self.old.places.items self.new.places.items number }
         ensures readiness { NotesByWrite number result self.old self.new }
         ensures traffic { CountsWrite self.old self.new result buf.now }
-        ensures asked { Asks (⟦<Self as Wire>⟧.asked self.old) (⟦<Self as Wire>⟧.asked self.new)
+        ensures asked { Asks
+            (⟦<Self as Wire>⟧.asked self.old) (⟦<Self as Wire>⟧.asked self.new)
             (Write number buf.now ∷ []) }
     {
         note_call(&mut self.asked, WireCall::Write(number), buf);
@@ -433,7 +438,8 @@ impl<L: Listener, A: Allocator + Copy> Wire for StreamWire<L, A> {
         ensures asks { L.asked self.new.listener ≡ L.asked self.old.listener }
         ensures readiness { self.new.readiness ≡ self.old.readiness }
         ensures traffic { self.new.traffic ≡ self.old.traffic }
-        ensures asked { Asks (⟦<Self as Wire>⟧.asked self.old) (⟦<Self as Wire>⟧.asked self.new)
+        ensures asked { Asks
+            (⟦<Self as Wire>⟧.asked self.old) (⟦<Self as Wire>⟧.asked self.new)
             (Shut number ∷ []) }
     {
         note_call(&mut self.asked, WireCall::Shut(number), &[]);
@@ -458,7 +464,8 @@ impl<L: Listener, A: Allocator + Copy> Wire for StreamWire<L, A> {
         ensures unsure { self.new.readiness.needs_timeout ≡ (self.old.readiness.needs_timeout
             && not (is_made idle self.old.readiness.has_buffered)) }
         ensures traffic { self.new.traffic ≡ self.old.traffic }
-        ensures asked { Asks (⟦<Self as Wire>⟧.asked self.old) (⟦<Self as Wire>⟧.asked self.new)
+        ensures asked { Asks
+            (⟦<Self as Wire>⟧.asked self.old) (⟦<Self as Wire>⟧.asked self.new)
             (Wait idle result ∷ []) }
     {
         let waited = self.wait_now(idle);
