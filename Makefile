@@ -44,13 +44,15 @@ check: library
 	check/program.py
 	check/serve.py
 	check/examples.py
+	check/package.py
 	check/library.py
 
 # Spreads work over several processes and machines of this one by what is installed: GNU parallel, Dask, HAProxy.
 check-batch:
 	check/batch.py
 
-# Makes a tarball of the program, the library for C and what goes with them, which is used without the toolchain.
+# Makes a tarball of the program, the library for C and what goes with them, which is used without the toolchain, and the
+# sdist and the wheel of the Python package.
 dist: library
 	check/dist.sh
 
@@ -90,7 +92,7 @@ help:
 	@echo 'make check      tries the built program as its users run it'
 	@echo 'make check-batch  tries the recipes for several machines, on this one'
 	@echo 'make deb        Debian packages of program and library'
-	@echo 'make dist       a tarball of program and library for machines without the toolchain'
+	@echo 'make dist       a tarball for machines without the toolchain, and the Python package'
 	@echo 'make test       the gate: every proof, each edit, test and program'
 	@echo 'make bench      how fast it is'
 	@echo 'make clean      takes away what was built and what rt check kept'

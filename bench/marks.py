@@ -26,10 +26,11 @@ import sys
 TOP = os.path.dirname(os.path.dirname(os.path.abspath(__file__)))
 sys.path.insert(0, os.path.join(TOP, "share", "examples"))
 
-from analyse import answers_of, depth_for, text_of_game  # noqa: E402
-from client import Client, add_arguments, client_of  # noqa: E402
-from game_report.values import SLIP, Analysis, chance  # noqa: E402
-from shogi_records import read_games  # noqa: E402
+from shogi_host import Engine  # noqa: E402
+from shogi_host.analyse import answers_of, depth_for, text_of_game  # noqa: E402
+from shogi_host.commands import add_arguments, client_of  # noqa: E402
+from shogi_host.records import read_games  # noqa: E402
+from shogi_host.report.values import SLIP, Analysis, chance  # noqa: E402
 
 AMONG, REAL, LARGE, DECIDED = 15, 0.1, 0.2, 0.95
 # The depth at which a player looks, and how far below the best move, in hundredths of a pawn, its choice spreads.
@@ -87,7 +88,7 @@ class Judge:
         texts = [text_of_game(game, plies) for plies in range(len(game.moves) + 1)]
         key = f"{self.depth} {texts[-1]}"
         if key not in self.known:
-            with contextlib.closing(Client(command=self.command, lines=None)) as engine:
+            with contextlib.closing(Engine.popen(self.command, lines=None)) as engine:
                 lines = [asked(engine, text, self.depth) for text in texts]
             self.known[key] = [found[0][1:] if found else (None, -1) for found in lines]
             if self.path:
@@ -120,7 +121,7 @@ def judged_marks(chances, marks):
 def games_of(arguments):
     """The games to look at."""
     if arguments.play:
-        with contextlib.closing(Client(command=shlex.split(arguments.engine), lines=None)) as engine:
+        with contextlib.closing(Engine.popen(shlex.split(arguments.engine), lines=None)) as engine:
             lines = [" ".join(played(engine, arguments.seed + number)) for number in range(arguments.play)]
         data = "\n".join(lines).encode() + b"\n"
         if arguments.keep:

@@ -19,9 +19,9 @@ from report import TOP, put, table
 
 sys.path.insert(0, os.path.join(TOP, "share", "examples"))
 
-from shogi_mates.solver import PLIES  # noqa: E402
-from shogi_records import read_games  # noqa: E402
-from shogi_records.board import Board  # noqa: E402
+from shogi_host.mates.solver import PLIES  # noqa: E402
+from shogi_host.records import read_games  # noqa: E402
+from shogi_host.records.board import Board  # noqa: E402
 
 PROGRAM = os.path.join(TOP, "crates", "usi_host", "out", "usi_host")
 TRIES = 3

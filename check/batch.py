@@ -22,7 +22,7 @@ BATCH, DEPLOY, GRADE = os.path.join(EXAMPLES, "batch"), os.path.join(TOP, "deplo
 sys.path.insert(0, EXAMPLES)
 sys.dont_write_bytecode = True
 
-from client import Client, Gone  # noqa: E402
+from shogi_host import Engine, Gone  # noqa: E402
 
 PATIENCE = 120
 
@@ -280,7 +280,7 @@ def sessions_over_machines():
 
 def kill_and_drain(machines, front):
     """A session goes on at the other machine where its own is killed, and none comes to one that is drained."""
-    client = Client(path=front, patience=PATIENCE)
+    client = Engine.connect(front, patience=PATIENCE)
     first = client.analyse("startpos", 1)
     mine = next(name for name in ("one", "two") if machines.column(name, "scur") == "1")
     other = "two" if mine == "one" else "one"
@@ -295,7 +295,7 @@ def kill_and_drain(machines, front):
     command(stats, f"set server machines/{other} state drain")
     begun = machines.column(other, "stot")
     for _ in range(4):
-        with contextlib.closing(Client(path=front, patience=PATIENCE)) as another:
+        with contextlib.closing(Engine.connect(front, patience=PATIENCE)) as another:
             want(another.analyse("startpos", 1), first, "the answer beside a drained machine")
     want(client.analyse("startpos", 1), first, "the session that was there")
     want((machines.column(other, "stot"), machines.column(other, "scur")), (begun, "1"), "no new session")
@@ -311,7 +311,7 @@ def kill_and_drain(machines, front):
     for name in ("one", "two"):
         machines.wait_until(name, "DOWN")
     with contextlib.suppress(Gone):
-        Client(path=front, patience=0)
+        Engine.connect(front, patience=0)
         raise Wrong("a session with a machine of another name")
 
 

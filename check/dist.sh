@@ -1,6 +1,7 @@
 #!/usr/bin/env bash
 # Makes dist/usi_host-VERSION.tar.gz of the built program and library, with all that `make install` has, and its
-# checksum beside it. PROVED in it says which sources and which toolchain proved them, and what they need.
+# checksum beside it; and the sdist and the wheel of the Python package. PROVED in the tarball says which sources and which
+# toolchain proved them, and what they need.
 set -euo pipefail
 cd "$(dirname "$0")/.."
 program=crates/usi_host/out/usi_host
@@ -23,3 +24,5 @@ mkdir -p dist
 tar -C "$folder" --owner=0 --group=0 -czf "dist/$name.tar.gz" "$name"
 (cd dist && sha256sum "$name.tar.gz" >"$name.tar.gz.sha256")
 cat "dist/$name.tar.gz.sha256"
+# Without the tools for it, which is said, there is no Python package.
+check/package.sh dist || [ $? -eq 3 ]

@@ -2,7 +2,8 @@
 """Runs the scripts of `share/examples` against the built program, over its standard input and output and
 as a host on a Unix socket. Its one argument is the program; without it, the program that `make build`
 makes. Its last line is `N passed, M failed`. The checks of records, of reports and of problems stand in records.py,
-reports.py and problems.py, those of grade.py's jobs in grades.py, those of odd engines and hosts in faults.py."""
+reports.py and problems.py, those of grade.py's jobs in grades.py, those of the client in
+clients.py, those of odd engines and hosts in faults.py."""
 
 import os
 import re
@@ -14,6 +15,7 @@ import tempfile
 import threading
 import time
 
+import clients
 import faults
 import grades
 import problems
@@ -26,8 +28,9 @@ sys.path.insert(0, EXAMPLES)
 sys.path.append(os.path.join(TOP, "bench"))
 sys.dont_write_bytecode = True
 
-from client import LINE_MAX, Client, Gone, HostFull, Lacking, Refused, TooSlow, options_of  # noqa: E402
 from marks import asked  # noqa: E402
+from shogi_host import Engine, Gone, HostFull, Lacking, Refused, TooSlow  # noqa: E402
+from shogi_host.engine import LINE_MAX, options_of  # noqa: E402
 
 MATE_IN_ONE = "4k4/9/4P4/9/9/9/9/9/9 b G 1"
 MATED = "4k4/9/4G4/9/9/9/9/9/9 w G 1"
@@ -84,11 +87,11 @@ def want_opening(client):
     answer = client.analyse("startpos", 3)
     want((answer.best, answer.ponder), ("7g7f", "4c4d"), "the best move")
     want([line.cp for line in answer.lines], [0, 0, 200], "the scores")
-    want(answer.lines[-1].pv, ["7g7f", "4c4d", "8h4d"], "the pv")
+    want(answer.lines[-1].pv, ("7g7f", "4c4d", "8h4d"), "the pv")
 
 
 def client_of_a_process():
-    client = Client(command=[PROGRAM])
+    client = Engine.popen([PROGRAM])
     want_opening(client)
     client.close()
 
@@ -98,7 +101,7 @@ def client_before_its_host():
         host = Host(os.path.join(folder, "socket"))
         late = threading.Timer(0.5, host.__enter__)
         late.start()
-        client = Client(path=host.path, patience=20)
+        client = Engine.connect(host.path, patience=20)
         want_opening(client)
         client.close()
         late.join()
@@ -108,7 +111,7 @@ def client_before_its_host():
 def client_without_a_host():
     with tempfile.TemporaryDirectory() as folder:
         try:
-            Client(path=os.path.join(folder, "socket"), patience=0.1)
+            Engine.connect(os.path.join(folder, "socket"), patience=0.1)
         except Gone:
             return
         raise Wrong("a client without a host")
@@ -117,14 +120,14 @@ def client_without_a_host():
 def client_of_a_full_host():
     with tempfile.TemporaryDirectory() as folder:
         with Host(os.path.join(folder, "socket"), "--slots", "1") as host:
-            first = Client(path=host.path, patience=20)
+            first = Engine.connect(host.path, patience=20)
             try:
-                Client(path=host.path, patience=0.1)
+                Engine.connect(host.path, patience=0.1)
                 raise Wrong("a client of a full host")
             except HostFull:
                 pass
             first.close()
-            second = Client(path=host.path, patience=20)
+            second = Engine.connect(host.path, patience=20)
             want_opening(second)
             second.close()
 
@@ -137,7 +140,7 @@ def client_of_a_host_that_is_full_at_once():
         host.listen()
         host.settimeout(20)
 
-        class Slow(Client):
+        class Slow(Engine):
             def send(self, line):
                 connection, _ = host.accept()
                 connection.sendall(b"info string host full\n")
@@ -155,8 +158,8 @@ def client_that_connects_again():
     with tempfile.TemporaryDirectory() as folder:
         path = os.path.join(folder, "socket")
         with Host(path):
-            client = Client(path=path, patience=20)
-            client.set_option("MultiPV", 2)
+            client = Engine.connect(path, patience=20)
+            client.configure({"MultiPV": 2})
             want_opening_of_two(client)
         with Host(path):
             want_opening_of_two(client)
@@ -183,9 +186,8 @@ def client_that_finds_another_host():
             (("--eval", "exchange"), {}, 3, [], said),
         ]:
             with Host(path, *words):
-                client = Client(path=path, patience=20)
-                for name, value in options.items():
-                    client.set_option(name, value)
+                client = Engine.connect(path, patience=20)
+                client.configure(options)
                 client.analyse("startpos", depth)
             with Host(path, *others):
                 try:
@@ -196,7 +198,7 @@ def client_that_finds_another_host():
                 want(client.socket, None, "the session is ended")
         text = f"sfen {reports.HANGING} moves 5f5e 5a4b"
         with Host(path, "--depth", "2", "--eval", "exchange", "--lines", "3"):
-            client = Client(path=path, patience=20)
+            client = Engine.connect(path, patience=20)
             first = client.analyse(text)
             want([(line.depth, line.number) for line in first.lines], [(1, 1), (2, 1)], "one line a depth")
         with Host(path, "--eval", "exchange", "--depth", "4", "--lines", "2"):
@@ -227,7 +229,7 @@ def host_without_several_lines():
             served = threading.Thread(target=answer)
             served.start()
             try:
-                Client(path=path, patience=0, lines=lines).close()
+                Engine.connect(path, patience=0, lines=lines).close()
                 want(lines, 1, "a client of two lines")
             except Lacking as lacking:
                 why = "an option with another name, or in other letters: 'MultiPV'; they are Depth"
@@ -237,7 +239,7 @@ def host_without_several_lines():
 
 
 def refused_positions():
-    client = Client(command=[PROGRAM])
+    client = Engine.popen([PROGRAM])
     client.set_position(f"sfen {MATE_IN_ONE}")
     for text, why in [
         (f"sfen {IMPOSSIBLE}", "bad position 4"),
@@ -252,17 +254,17 @@ def refused_positions():
     client.close()
 
 
-class Unsent(Client):
+class Unsent(Engine):
     """A client that keeps the lines that it would send, of a host that has no legal move to answer."""
 
-    def connect(self):
+    def begin(self):
         self.sent, self.offered = [], options_of(USI.decode().splitlines())
 
     def send(self, line):
         self.sent.append(line)
 
-    def read_until(self, word):
-        return [f"{word} resign"]
+    def read_reply(self, end=None):
+        return "bestmove resign"
 
 
 def named(call, *words):
@@ -285,17 +287,17 @@ def slips_are_named_and_not_sent():
         want(named(client.go, value), f"a depth {why}", "go")
         want(named(client.analyse, "startpos", value), f"a depth {why}", "a position and go")
         slip = "a number out of range" if str(value).isascii() and str(value).isdigit() else wrong
-        want(named(client.set_option, "Depth", value), f"{slip}: Depth {why}", "the option")
+        want(named(client.configure, {"Depth": value}), f"{slip}: Depth {why}", "the option")
     for value in (*NO_NUMBERS, None, 9, 20):
         slip = "a number out of range" if str(value) in ("9", "20", "0") else wrong
         why = f"{slip}: MultiPV is a whole number from 1 to 8, and not {value!r}"
-        want(named(client.set_option, "MultiPV", value), why, "lines")
+        want(named(client.configure, {"MultiPV": value}), why, "lines")
     for value in ("hand", "Hands", "Hand x", "", 1, None):
         why = f"{wrong}: Eval is Plain or Hand, and not {value!r}"
-        want(named(client.set_option, "Eval", value), why, "an evaluation")
+        want(named(client.configure, {"Eval": value}), why, "an evaluation")
     for name in ("depth", "Multipv", "USI_Hash", "Depth ", "", None):
         why = f"an option with another name, or in other letters: {name!r}; they are Depth, Eval, MultiPV"
-        want(named(client.set_option, name, 3), why, "another name")
+        want(named(client.configure, {name: 3}), why, "another name")
     want(client.sent, [], "what was sent")
     want(client.options, {"MultiPV": 1}, "the options of a session that is begun anew")
 
@@ -306,10 +308,10 @@ def what_a_host_offers_is_taken():
     offered += " var Plain var Hand var Exchange\noption name Ponder type check default false"
     client.offered = options_of(offered.splitlines())
     want(client.offered, {"Depth": range(1, 5), "Eval": ("Plain", "Hand", "Exchange")}, "the options")
-    client.set_option("Eval", "Exchange")
+    client.configure({"Eval": "Exchange"})
     want(named(client.go, 5), "a depth is a whole number from 1 to 4, and not 5", "too deep")
     why = "an option with a value that it does not have: Eval is Plain, Hand or Exchange, and not 'exchange'"
-    want(named(client.set_option, "Eval", "exchange"), why, "an evaluation")
+    want(named(client.configure, {"Eval": "exchange"}), why, "an evaluation")
     want(client.sent, ["setoption name Eval value Exchange"], "what was sent")
 
 
@@ -324,7 +326,7 @@ def what_is_no_slip_is_sent():
         ("Eval", "Plain"),
         ("Eval", "Hand"),
     ]:
-        client.set_option(name, value)
+        client.configure({name: value})
         want(client.sent.pop(), f"setoption name {name} value {value}", "an option")
     want(client.options, {"Depth": "007", "MultiPV": 8, "Eval": "Hand"}, "the options")
     for depth, line in [(None, "go"), (1, "go depth 1"), (16, "go depth 16"), ("9", "go depth 9")]:
@@ -365,7 +367,7 @@ def grades_of_positions():
     want(run("grade.py", *words), (1, GRADES, ""), "over a process")
     with tempfile.TemporaryDirectory() as folder:
         with Host(os.path.join(folder, "socket")) as host:
-            Client(path=host.path, patience=20).close()
+            Engine.connect(host.path, patience=20).close()
             want(run("grade.py", "--socket", host.path, "--eval", "Plain")[:2], (1, GRADES), "over a host")
 
 
@@ -397,7 +399,7 @@ def host_setups_change_no_output():
         reported = [word for kind, file in zip(kinds, files) for word in (f"--{kind}", file)]
         for words in (["--lines", "4", "--depth", "6", "--max-depth", "8"], []):
             with Host(path, "--eval", "exchange", *words):
-                Client(path=path, patience=20).close()
+                Engine.connect(path, patience=20).close()
                 asked = ["--socket", path, "--eval", "Plain"]
                 engine = ["--engine", PROGRAM, "--go", "depth 1"]
                 outputs = [run("client.py", "--socket", path, "sfen " + reports.HANGING)]
@@ -439,7 +441,7 @@ def positions_longer_than_a_line():
 def engine_that_is_mated():
     """`mate 0` is a mated side."""
 
-    class Engine:
+    class Mated:
         def __init__(self, *replies):
             self.replies = replies
 
@@ -456,7 +458,7 @@ def engine_that_is_mated():
         (["info depth 1 score cp 600 pv 1g1f", "info depth 2 score cp 0 pv 1g1f"], [("1g1f", 0, None)]),
         ([], []),
     ]:
-        want(asked(Engine(*replies), "startpos", 2), lines, f"{replies}")
+        want(asked(Mated(*replies), "startpos", 2), lines, f"{replies}")
 
 
 def grades_of_a_program_that_sleeps():
@@ -466,13 +468,13 @@ def grades_of_a_program_that_sleeps():
         status, table, told = run("grade.py", *words, sent="startpos\nstartpos\n")
         want((status, table), (2, "sfen,depth,best,cp,mate,pv,error\nstartpos,3,1g1f,0,,1g1f,\n"), "the rows")
         want(told.splitlines()[-1], f"grade.py: {fake}: no answer within 10 s", "the program is named")
-        client = Client(command=[fake], timeout=5)
+        client = Engine.popen([fake], timeout=5)
         try:
             client.go(1)
             client.go(1)
             raise Wrong("an answer of a program that sleeps")
         except TooSlow:
-            want(client.process, None, "the program is ended")
+            want(client.program, None, "the program is ended")
 
 
 def moves_of_another_engine():
@@ -513,7 +515,7 @@ def table_of_a_status():
         gone = subprocess.run([*script, path], capture_output=True, timeout=120, check=False)
         want((gone.returncode, gone.stdout), (1, b""), "no host")
         with Host(os.path.join(folder, "socket"), "--status", path, "--slots", "7") as host:
-            want_opening(Client(path=host.path, patience=20))
+            want_opening(Engine.connect(host.path, patience=20))
             ended = subprocess.run([*script, path], capture_output=True, timeout=120, check=False)
             rows = [line.rsplit(None, 1) for line in ended.stdout.decode().splitlines()]
             seen = {label.strip(): number for label, number in rows}
@@ -566,6 +568,7 @@ if __name__ == "__main__":
                 moves_of_another_engine,
                 another_engine_that_dies,
                 table_of_a_status,
+                *clients.CHECKS,
                 *grades.CHECKS,
                 *faults.CHECKS,
                 *records.CHECKS,

@@ -17,8 +17,9 @@ from reports import EXAMPLES, analysed, make_fake
 
 sys.path.insert(0, EXAMPLES)
 
-from client import Client, Garbled, bounds_of, is_number, options_of  # noqa: E402
-from shogi_records import read_games  # noqa: E402
+from shogi_host import Engine, Garbled  # noqa: E402
+from shogi_host.engine import bounds_of, is_number, options_of  # noqa: E402
+from shogi_host.records import read_games  # noqa: E402
 
 # An engine whose name and options are in Shift-JIS, with numbers and names that are none, and a bestmove by its word.
 ODD = """#!{python}
@@ -66,7 +67,7 @@ def odd_engines():
             status, table, told = compared(engine)
             why = f"compare.py: the other engine, {engine}: a bestmove without a move\n"
             want((status, len(table.splitlines()), told), (2, 1, why), "a bare bestmove")
-            client = Client(command=[engine], lines=None)
+            client = Engine.popen([engine], lines=None)
             want(client.offered, {}, "what it offers")
             try:
                 client.go()
@@ -126,7 +127,7 @@ def hosts_that_are_not_there_or_full():
         want(run("grade.py", "--socket", long), (2, "", f"grade.py: {long}: AF_UNIX path too long\n"), "too long a path")
         with subprocess.Popen([PROGRAM, "serve", "--socket", path, "--slots", "1"]) as host:
             try:
-                first = Client(path=path, patience=20)
+                first = Engine.connect(path, patience=20)
                 full = f"{path}: the host has as many clients as it takes"
                 again = f"compare.py: {full}; it is tried again for 2 s\ncompare.py: {full}\n"
                 words = ["--engine", PROGRAM, "--socket", path, "--patience", "2", "--depth", "2"]
@@ -164,7 +165,7 @@ def evaluations_by_both_names():
 def words_that_a_host_passes_over():
     """Are not sent: the answer would be that to a `go` without them."""
     with tempfile.TemporaryDirectory() as folder:
-        client = Client(command=[make_fake(folder)])
+        client = Engine.popen([make_fake(folder)])
         for line in ("go nodes 100", "go depth 2 searchmoves 7g7f", "  go\tsearchmoves 7g7f"):
             try:
                 client.send(line)

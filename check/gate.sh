@@ -20,6 +20,7 @@ if [ $status -eq 0 ]; then
         check/program.py | tee -a "$log" || status=1
         check/serve.py | tee -a "$log" || status=1
         check/examples.py | tee -a "$log" || status=1
+        check/package.py | tee -a "$log" || status=1
         check/library.py | tee -a "$log" || status=1
         check/old.py | tee -a "$log" || status=1
     else

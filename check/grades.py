@@ -16,7 +16,7 @@ from reports import EXAMPLES, make_fake
 
 sys.path.insert(0, EXAMPLES)
 
-from grade import Csv, Jsonl, resumed  # noqa: E402
+from shogi_host.grade import Csv, Jsonl, resumed  # noqa: E402
 
 RATES = r"grade\.py: (\d+ positions.*), (\d+) refused; [\d.]+ s, [\d.]+ a second, [\d.]+ with each of (\d+)\n"
 IMPOSSIBLE = "9/9/9/9/9/9/9/9/9 b 19P 1"

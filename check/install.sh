@@ -34,10 +34,10 @@ for page in SECURITY docs/GUIDE docs/PROTOCOL docs/OPERATING docs/TROUBLESHOOTIN
         s#\[([^]]*)\]\([^:)][^)]*\)#\1#g; s#\]\(:#](#g" "$page.md" >"$to"
     chmod 644 "$to"
 done
-for package in game_report shogi_mates shogi_records; do
-    install -D -m 644 -t "$doc/examples/$package" share/examples/$package/*.py
+install -m 644 -t "$doc/examples" share/examples/pyproject.toml
+for folder in shogi_host shogi_host/mates shogi_host/records shogi_host/report; do
+    install -D -m 644 -t "$doc/examples/$folder" share/examples/$folder/*.*
 done
-install -D -m 644 -t "$doc/examples/game_report" share/examples/game_report/shapes.txt share/examples/game_report/step.js
 if [ -e "$library/libusi.so" ] && [ -e "$library/libusi.a" ]; then
     version=$(sed -n 's/^#define USI_VERSION "\(.*\)"$/\1/p' share/library/usi_library.h)
     install -D -m 644 share/library/usi_library.h "$root/include/usi_library.h"

@@ -28,9 +28,9 @@ BUILT = os.path.join(TOP, "crates", "usi_host", "out", "usi_host")
 sys.path[:0] = [os.path.join(TOP, "bench"), os.path.join(TOP, "share", "examples")]
 sys.dont_write_bytecode = True
 
-from client import Gone, Refused  # noqa: E402
 from minimax_rows import KINDS, after, in_check, is_dead, legal_codes, on_board, read, text  # noqa: E402
-from shogi_mates.solver import PLIES, Mate, Solver  # noqa: E402
+from shogi_host import Gone, Mate, Refused, Solver  # noqa: E402
+from shogi_host.mates.solver import PLIES  # noqa: E402
 
 FAIRY = shutil.which("fairy-stockfish", path=os.environ.get("PATH", "") + ":/usr/games")
 # Which sides have a king; and how many of each kind of piece there are.
@@ -75,7 +75,7 @@ def differences(position, answer: Mate, most):
         left = moves - (at + 1) // 2
         if at % 2 == 0:
             wanted = keys(position, left - 1)
-            if answer.keys[at // 2] != wanted or word != wanted[0]:
+            if list(answer.keys[at // 2]) != wanted or word != wanted[0]:
                 return [f"ply {at + 1}: keys {answer.keys[at // 2]}, by definition {wanted}"]
         position = played(position, word)
         if position is None:

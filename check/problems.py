@@ -20,7 +20,7 @@ EXAMPLES = os.path.join(TOP, "share", "examples")
 SAMPLE = os.path.join(EXAMPLES, "problems.sfen")
 sys.path.insert(0, EXAMPLES)
 
-from shogi_mates.problems import read_problems  # noqa: E402
+from shogi_host.mates.problems import read_problems  # noqa: E402
 
 GOLD = "4k4/9/4P4/9/9/9/9/9/9 b G"
 ROOK = "8k/9/7G1/9/9/9/9/9/9 b R"

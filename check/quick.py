@@ -20,7 +20,7 @@ import build
 import unproved
 
 HERE = os.path.dirname(os.path.abspath(__file__))
-SCRIPTS = ("program.py", "serve.py", "examples.py", "readmes.py")
+SCRIPTS = ("program.py", "serve.py", "examples.py", "package.py", "readmes.py")
 COUNTED = re.compile(r"^(\d+) passed, (\d+) failed", re.M)
 FAILED = re.compile(r"^.*FAILED.*$", re.M)
 # How long a test, a script or a program may take, in seconds.

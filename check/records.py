@@ -10,8 +10,8 @@ from written import csa_of, ki2_of, kif_of
 
 sys.path.insert(0, os.path.join(TOP, "share", "examples"))
 
-from shogi_records import Unreadable, read_games  # noqa: E402
-from shogi_records.encoding import text_of_name  # noqa: E402
+from shogi_host.records import Unreadable, read_games  # noqa: E402
+from shogi_host.records.encoding import text_of_name  # noqa: E402
 
 OPENING = "lnsgkgsnl/1r5b1/ppppppppp/9/9/9/PPPPPPPPP/1B5R1/LNSGKGSNL b - 1"
 BELOW = "ppppppppp/9/9/9/PPPPPPPPP/1B5R1/LNSGKGSNL"

@@ -22,20 +22,21 @@ from written import kif_of
 EXAMPLES = os.path.join(TOP, "share", "examples")
 sys.path.insert(0, EXAMPLES)
 
-from client import Answer, Client, Line, command_of  # noqa: E402
-from game_report.curve import picture_of  # noqa: E402
-from game_report.data import data_of  # noqa: E402
-from game_report.kif import record_of  # noqa: E402
-from game_report.opinion import View, view_of  # noqa: E402
-from game_report.page import page_of  # noqa: E402
-from game_report.shapes import shape_of, shapes  # noqa: E402
-from game_report.texts import LANGUAGES, TEXTS  # noqa: E402
-from game_report.threats import Threat, balance_of, cause_of, look_at  # noqa: E402
-from game_report.values import Analysis, accuracy_of, agreed_loss, loss_of, lost_chance  # noqa: E402
-from game_report.words import Made, pawns  # noqa: E402
-from shogi_records import read_games  # noqa: E402
-from shogi_records.board import Board  # noqa: E402
-from shogi_records.notation import NOTATIONS, kif, line_of  # noqa: E402
+from shogi_host import Answer, Centipawns, Engine, Line, MateIn  # noqa: E402
+from shogi_host.commands import command_of  # noqa: E402
+from shogi_host.report.curve import picture_of  # noqa: E402
+from shogi_host.report.data import data_of  # noqa: E402
+from shogi_host.report.kif import record_of  # noqa: E402
+from shogi_host.report.opinion import View, view_of  # noqa: E402
+from shogi_host.report.page import page_of  # noqa: E402
+from shogi_host.report.shapes import shape_of, shapes  # noqa: E402
+from shogi_host.report.texts import LANGUAGES, TEXTS  # noqa: E402
+from shogi_host.report.threats import Threat, balance_of, cause_of, look_at  # noqa: E402
+from shogi_host.report.values import Analysis, accuracy_of, agreed_loss, loss_of, lost_chance  # noqa: E402
+from shogi_host.report.words import Made, pawns  # noqa: E402
+from shogi_host.records import read_games  # noqa: E402
+from shogi_host.records.board import Board  # noqa: E402
+from shogi_host.records.notation import NOTATIONS, kif, line_of  # noqa: E402
 
 # A game with pieces that hang, and what bench/game_rows.py works out for it at depth 4, by both evaluations.
 HANGING = "4k4/9/9/4s4/9/4P4/4G4/9/4K4 b - 1"
@@ -181,8 +182,8 @@ def answer(*values):
     lines = []
     for depth, value in enumerate(values, 1):
         is_mate = isinstance(value, str)
-        lines.append(Line(depth, 1, None if is_mate else value, int(value[1:]) if is_mate else None, ["1g1f"]))
-    return Answer("1g1f" if values else "resign", None, lines)
+        lines.append(Line(depth, 1, MateIn(int(value[1:])) if is_mate else Centipawns(value), ("1g1f",)))
+    return Answer("1g1f" if values else "resign", None, tuple(lines))
 
 
 def losses_on_which_depths_agree():
@@ -339,7 +340,7 @@ def want_page(text, marks):
     want([link for link in tags.links if not link.startswith(("#", *LINKS))], [], "links")
     want([tag for tag in ("link", "img", "iframe", "object", "base") if tag in tags.seen], [], "tags that load")
     want([word for word in ("@import", "url(") if word in text], [], "what is loaded")
-    with open(os.path.join(EXAMPLES, "game_report", "step.js"), encoding="ascii") as file:
+    with open(os.path.join(EXAMPLES, "shogi_host", "report", "step.js"), encoding="ascii") as file:
         script = file.read()
     want(text.count("<script"), 2, "scripts: the data, and the one that steps")
     want(text.count(f"<script>{script}</script>"), 1, "the script that steps")
@@ -445,7 +446,7 @@ def filled(record):
     analysis = Analysis(game, 4)
     for board in analysis.boards:
         [move] = [move for move in ("1g1f", "1c1d", "1f1e", "1d1e", "9i9h", "9a9b") if board.is_legal(move)][:1]
-        analysis.answers.append(Answer(move, None, [Line(depth, 1, 0, None, [move]) for depth in range(1, 5)]))
+        analysis.answers.append(Answer(move, None, tuple(Line(depth, 1, Centipawns(0), (move,)) for depth in range(1, 5))))
     return analysis
 
 
@@ -633,9 +634,9 @@ SLIPS = [
 
 
 def causes_of_slips():
-    client = Client(command=command_of(PROGRAM, 4))
+    client = Engine.popen(command_of(PROGRAM, 4))
     if has_exchange():
-        client.set_option("Eval", "Exchange")
+        client.configure({"Eval": "Exchange"})
     for sfen, move, cause in SLIPS:
         [game] = read_games(f"position sfen {sfen} moves {move}\n".encode())
         analysis = Analysis(game, 4)
