@@ -142,6 +142,7 @@ def hosts_that_are_not_there_or_full():
         want((status, "a time is a number of seconds above 0" in told), (2, True), told)
 
 
+MATE_IN_ONE = "4k4/9/4P4/9/9/9/9/9/9 b G 1"
 GRADED = "sfen,depth,best,cp,mate,pv,error\nstartpos,1,1g1f,0,,1g1f,\n"
 
 
@@ -152,6 +153,9 @@ def programs_that_are_not_there():
         status, table, told = run(name, *words, *(["-"] if name == "client.py" else []), env={**os.environ, "PATH": "/none"})
         want((status, table), (1 if name == "client.py" else 2, ""), told)
         want(told, f"{name}: usi_host: No such file or directory; {how}\n", name)
+    how = how.partition(",")[0]
+    why = f"tsume.py: usi_host: No such file or directory; {how}; written is what is done, 0 of 1 problems\n"
+    want(run("tsume.py", sent=f"{MATE_IN_ONE}\n", env={**os.environ, "PATH": "/none"}), (2, "", why), "tsume.py")
 
 
 def evaluations_by_both_names():
@@ -182,6 +186,8 @@ def other_letters_in_other_locales():
         words = ["--program", PROGRAM, "--depth", "2"]
         status, table, told = run("grade.py", *words, sent=sent, env={**os.environ, **locale})
         want((status, table.splitlines()[1:]), (1, [row]), told)
+        status, table, told = run("tsume.py", *words[:2], sent=f"{MATE_IN_ONE}\n", env={**os.environ, **locale})
+        want((status, table), (0, "   1  mate 1  sound  ☗５二金\n"), told)
     lines = "# a\u2028startpos\n# b\x85startpos\nstartpos\n"
     want(run("grade.py", *words[:3], "1", "--eval", "Plain", sent=lines)[:2], (0, GRADED), "lines of other kinds")
 
@@ -203,11 +209,14 @@ def names_with_letters_that_are_no_text():
     want(names, ("甲 [31m 手合割：六枚落ち", "乙 先手：丙", "lnsgkgsnl"), "the names")
 
 
+SENT = {"grade.py": b"startpos\nstartpos\n", "analyse.py": b"7g7f", "tsume.py": f"{MATE_IN_ONE}\n".encode()}
+
+
 def terminal_of(*script):
     """What a script shows on a terminal, as its standard error."""
     ours, theirs = pty.openpty()
     with subprocess.Popen(script, stdin=subprocess.PIPE, stdout=subprocess.DEVNULL, stderr=theirs) as running:
-        running.stdin.write(b"startpos\nstartpos\n" if "grade.py" in script[2] else b"7g7f")
+        running.stdin.write(SENT[os.path.basename(script[2])])
         running.stdin.close()
         os.close(theirs)
         seen = b""
@@ -224,8 +233,11 @@ def progress_is_for_terminals():
     for name, wanted in [
         ("grade.py", ["1 of 2, 0 refused", "2 of 2, 0 refused", "grade.py: 2 positions, 0 refused; "]),
         ("analyse.py", ["1 of 2 positions", "2 of 2 positions, 0:00 left"]),
+        ("tsume.py", ["1 of 1"]),
     ]:
-        words = ["--program", PROGRAM, "--depth", "4" if name == "analyse.py" else "1", "--eval", "Plain"]
+        words = ["--program", PROGRAM]
+        if name != "tsume.py":
+            words += ["--depth", "4" if name == "analyse.py" else "1", "--eval", "Plain"]
         seen = terminal_of(sys.executable, "-B", os.path.join(TOP, "share", "examples", name), *words)
         want([text for text in wanted if f"\r{text}" not in seen], [], f"{name}: {seen!r}")
 

@@ -61,5 +61,6 @@ if __name__ == "__main__":
     try:
         sys.exit(main())
     except (RuntimeError, OSError) as why:
-        print(f"batch_dask.py: {why}", file=sys.stderr)
+        told = f"{why.filename}: {why.strerror}" if isinstance(why, OSError) else why
+        print(f"batch_dask.py: {told}", file=sys.stderr)
         sys.exit(2)

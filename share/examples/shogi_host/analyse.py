@@ -30,7 +30,7 @@ import tempfile
 import time
 from typing import Callable, Iterator, Optional, Sequence
 
-from .commands import add_arguments, client_of, in_order, show_progress, tell, told_evaluation
+from .commands import add_arguments, client_of, in_order, show_progress, tell, told_evaluation, write_utf8
 from .engine import Answer, Engine
 from .errors import Gone, Refused
 from .report.curve import picture_of
@@ -316,6 +316,7 @@ def run(arguments: argparse.Namespace, clients: list[Engine]) -> int:
 def main() -> int:
     """The command; gives its status."""
     arguments = arguments_of()
+    write_utf8()
     clients: list[Engine] = []
     try:
         return run(arguments, clients)

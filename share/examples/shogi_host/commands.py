@@ -12,6 +12,7 @@ from typing import Callable, Iterator, Optional, Sequence, TypeVar
 from .engine import EVALUATIONS, Engine, want_depth
 from .errors import Gone
 
+PROGRAM_HINT = "--program PATH names the program to start"
 C = TypeVar("C")
 I = TypeVar("I")
 R = TypeVar("R")
@@ -125,8 +126,7 @@ def command_of(program: str, depth: int) -> list[str]:
     try:
         tried = subprocess.run(words, stdin=subprocess.DEVNULL, capture_output=True, timeout=120, check=False)
     except OSError as why:
-        how = "--program PATH names the program to start, --socket PATH a host that runs"
-        raise Gone(f"{program}: {why.strerror}; {how}") from why
+        raise Gone(f"{program}: {why.strerror}; {PROGRAM_HINT}, --socket PATH a host that runs") from why
     except subprocess.TimeoutExpired as why:
         raise Gone(f"{program}: it does not end where its input ends") from why
     return [program] if tried.returncode == 2 else words

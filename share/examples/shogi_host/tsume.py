@@ -24,8 +24,8 @@ import sys
 from typing import Any, Optional, Sequence
 
 from .analyse import want_place, write_file
-from .commands import in_order, seconds_of, show_progress, tell
-from .errors import Gone
+from .commands import PROGRAM_HINT, in_order, seconds_of, show_progress, tell, write_utf8
+from .errors import Gone, NotStarted
 from .mates.page import page_of
 from .mates.problems import Examiner, Found, Problem, read_problems
 from .mates.solver import PLIES
@@ -164,7 +164,8 @@ def run(arguments: argparse.Namespace, examiners: list[Examiner]) -> int:
         show_progress("", "\r")
     except (Gone, OSError, KeyboardInterrupt) as why:
         show_progress("", "\r")
-        cause, status = ("Ctrl-C", 130) if isinstance(why, KeyboardInterrupt) else (why, 2)
+        hint = f"; {PROGRAM_HINT}" if isinstance(why, NotStarted) else ""
+        cause, status = ("Ctrl-C", 130) if isinstance(why, KeyboardInterrupt) else (f"{why}{hint}", 2)
         write_page(arguments, writer.rows, False)
         tell(f"{cause}; written is what is done, {len(writer.rows)} of {len(problems)} problems")
         return status
@@ -175,6 +176,7 @@ def run(arguments: argparse.Namespace, examiners: list[Examiner]) -> int:
 def main() -> int:
     """The command; gives its status."""
     arguments = arguments_of()
+    write_utf8()
     examiners: list[Examiner] = []
     try:
         return run(arguments, examiners)
