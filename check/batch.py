@@ -6,6 +6,7 @@ failed`."""
 
 import contextlib
 import os
+import random
 import shutil
 import signal
 import socket
@@ -23,8 +24,12 @@ sys.path.insert(0, EXAMPLES)
 sys.dont_write_bytecode = True
 
 from shogi_host import Engine, Gone  # noqa: E402
+from shogi_host.records import Board  # noqa: E402
+from shogi_host.records.board import name_of  # noqa: E402
 
-PATIENCE = 120
+PATIENCE, MANY_PATIENCE = 120, 3_600
+# So many positions of random games, none longer than that, are graded in each way at this depth.
+MANY, GAME_MAX, MANY_DEPTH = 10_000, 120, "2"
 
 # The program; the first one that is asked for its third search kills a process so many steps above it, and none after it.
 KILLER = """#!{python} -B
@@ -61,7 +66,7 @@ SFENS[5] = "9/9/9/9/9/9/9/9/9 b 19P 1"
 class Place:
     """A folder with positions, their grades by one grade.py, and a program that kills a worker once."""
 
-    def __init__(self, folder, steps=1):
+    def __init__(self, folder, steps=1, sfens=SFENS, depth="1"):
         self.folder = folder
         self.killed, self.program = self.path("killed"), self.path("program")
         with open(self.program, "w", encoding="utf-8") as file:
@@ -69,11 +74,12 @@ class Place:
         os.chmod(self.program, 0o755)
         self.positions = self.path("positions.txt")
         with open(self.positions, "w", encoding="ascii") as file:
-            file.write("".join(f"{sfen}\n" for sfen in SFENS))
-        self.words = ["--depth", "1", "--eval", "plain", "--program", self.program]
+            file.write("".join(f"{sfen}\n" for sfen in sfens))
+        self.words = ["--depth", depth, "--eval", "plain", "--program", self.program]
         one = [sys.executable, "-B", GRADE, "--jobs", "1", "--format", "jsonl", *self.words[:-1], PROGRAM, self.positions]
-        ended = subprocess.run(one, capture_output=True, timeout=PATIENCE, check=False)
-        want((ended.returncode, ended.stdout.count(b"\n")), (1, len(SFENS)), ended.stderr.decode())
+        ended = subprocess.run(one, capture_output=True, timeout=MANY_PATIENCE, check=False)
+        refused = int(SFENS[5] in sfens)
+        want((ended.returncode, ended.stdout.count(b"\n")), (refused, len(sfens)), ended.stderr.decode())
         self.wanted = ended.stdout
 
     def path(self, name):
@@ -83,7 +89,7 @@ class Place:
     def run(self, *words, check=True, **variables):
         """Runs a command in the folder; its output."""
         environment = {**os.environ, "GRADE": GRADE, "PYTHONDONTWRITEBYTECODE": "1", **variables}
-        how = {"cwd": self.folder, "env": environment, "capture_output": True, "timeout": 4 * PATIENCE}
+        how = {"cwd": self.folder, "env": environment, "capture_output": True, "timeout": MANY_PATIENCE}
         ended = subprocess.run(words, check=False, **how)
         if check and ended.returncode not in (0, 1):
             raise Wrong(f"{words}: status {ended.returncode}, {ended.stderr.decode()}")
@@ -96,9 +102,9 @@ class Place:
 
 
 @contextlib.contextmanager
-def place(steps=1):
+def place(*words):
     with tempfile.TemporaryDirectory() as folder:
-        yield Place(folder, steps)
+        yield Place(folder, *words)
 
 
 def blocks_by_parallel():
@@ -137,7 +143,7 @@ def python_with_dask():
 
 def blocks_by_dask():
     """One worker of two, a process, is killed in the middle of a block."""
-    with place(steps=2) as here:
+    with place(2) as here:
         script = os.path.join(BATCH, "batch_dask.py")
         words = ["--workers", "2", "--block", "9", here.positions, "--", *here.words]
         out = here.run(python_with_dask(), "-B", script, *words)
@@ -315,6 +321,104 @@ def kill_and_drain(machines, front):
         raise Wrong("a session with a machine of another name")
 
 
+def a_move(choice, board):
+    """A legal move by chance; None where a hundred tries found none. It drops no pawn with check, which might mate."""
+    empty = [(file, rank) for file in range(1, 10) for rank in range(1, 10) if (file, rank) not in board.squares]
+    own = sorted(square for square, (black, _) in board.squares.items() if black == board.black)
+    for _ in range(100):
+        begins = choice.choice([*own, *(role for role, _ in board.hand(board.black))])
+        if isinstance(begins, str):
+            move = f"{begins}*{name_of(choice.choice(empty))}"
+        else:
+            to = choice.choice([*board.targets(begins), begins])
+            move = name_of(begins) + name_of(to) + choice.choice(("", "+"))
+        if board.is_legal(move):
+            after = board.copy()
+            after.play(move)
+            if begins != "P" or not after.is_checked(after.black):
+                return move
+    return None
+
+
+def random_sfens(seed=1):
+    """The positions of random legal games, the same at each run."""
+    choice, sfens = random.Random(seed), []
+    while len(sfens) < MANY:
+        board = Board.of("startpos")
+        for _ in range(GAME_MAX):
+            move = a_move(choice, board)
+            if move is None:
+                break
+            board.play(move)
+            sfens.append(board.sfen())
+    return sfens[:MANY]
+
+
+def many_positions_by_each_way():
+    """One process, four, GNU parallel, Dask and sessions over two machines by TLS give the same bytes."""
+    with place(1, random_sfens(), MANY_DEPTH) as here:
+        words = [*here.words[:-1], PROGRAM]
+        grade = [sys.executable, "-B", GRADE, "--format", "jsonl"]
+        want(here.run(*grade, "--jobs", "4", *words, here.positions) == here.wanted, True, "four processes")
+        script = os.path.join(BATCH, "batch_parallel.sh")
+        out = here.run(script, here.positions, "graded", *words, PARALLEL="-j4")
+        want(out == here.wanted, True, "parallel")
+        script = os.path.join(BATCH, "batch_dask.py")
+        out = here.run(python_with_dask(), "-B", script, "--workers", "4", here.positions, "--", *words)
+        want(out == here.wanted, True, "Dask")
+        machines = Machines(here)
+        try:
+            machines.begin()
+            words = ["--socket", here.path("front/front.socket"), "--jobs", "4", *here.words[:4], here.positions]
+            want(here.run(*grade, *words) == here.wanted, True, "over machines")
+        finally:
+            machines.end()
+
+
+def idle_clients_are_closed():
+    """By `timeout client`: one that sends nothing for so long, and one whose search takes longer once it has its answer;
+    one that asks now and then is kept."""
+    with place() as here:
+        with open(os.path.join(DEPLOY, "haproxy.cfg"), encoding="ascii") as file:
+            kept = file.read()
+        want(kept.count("timeout client 1d"), 1, "the line of the recipe")
+        with open(here.path("haproxy.cfg"), "w", encoding="ascii") as file:
+            file.write(kept.replace("timeout client 1d", "timeout client 1s"))
+        running = []
+        try:
+            for name in ("one", "two"):
+                running.append(subprocess.Popen([PROGRAM, "serve", "--socket", f"{name}.socket"], cwd=here.folder))
+            running.append(subprocess.Popen(["haproxy", "-f", "haproxy.cfg"], cwd=here.folder, stderr=subprocess.DEVNULL))
+            front = here.path("front.socket")
+            wait_for(lambda: os.path.exists(front), "the balancer")
+            Engine.connect(front, patience=PATIENCE).close()
+            for asks, sent, wanted in [
+                (0, b"", b""),
+                (0, b"isready\n", b"readyok\n"),
+                (5, b"isready\n", b"readyok\n"),
+                (0, f"position {SFENS[-1]}\ngo depth 6\n".encode(), b"bestmove "),
+            ]:
+                with socket.socket(socket.AF_UNIX) as client:
+                    client.settimeout(PATIENCE)
+                    client.connect(front)
+                    began = time.monotonic()
+                    for _ in range(asks):
+                        client.sendall(sent)
+                        want(client.recv(100), wanted, "kept")
+                        time.sleep(0.5)
+                    client.sendall(sent)
+                    told = b""
+                    while piece := client.recv(65_536):
+                        told += piece
+                    lived = time.monotonic() - began
+                want(told.splitlines()[-1:] == [] if not wanted else wanted in told, True, f"{sent}: {told}")
+                want(lived >= 0.5 * asks + 0.9, True, f"{sent}: closed after {lived} s")
+        finally:
+            for process in running:
+                process.kill()
+                process.wait()
+
+
 def tools():
     """The checks, and what each one needs that is not there."""
     yield blocks_by_parallel, "" if shutil.which("parallel") else "parallel"
@@ -322,6 +426,10 @@ def tools():
     yield parts_by_variables_of_slurm, ""
     missing = [name for name in ("haproxy", "openssl") if not shutil.which(name, path=f"{os.environ['PATH']}:/usr/sbin")]
     yield sessions_over_machines, " and ".join(missing)
+    yield idle_clients_are_closed, " and ".join(missing[: "haproxy" in missing])
+    missing += [name for name in ("parallel",) if not shutil.which(name)]
+    missing += [] if python_with_dask() else ["python3-distributed"]
+    yield many_positions_by_each_way, " and ".join(missing)
 
 
 def main():

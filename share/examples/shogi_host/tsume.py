@@ -58,7 +58,7 @@ def data_of(number: int, problem: Problem, found: Found, pieces: str) -> dict[st
 
 def cell_of(value: object) -> object:
     """A value as the table of CSV has it: of another key its ply, the move and its plies."""
-    if isinstance(value, list):
+    if isinstance(value, (list, tuple)):
         words = (f"{it['ply']} {it['move']} {it['plies']}" if isinstance(it, dict) else str(it) for it in value)
         return ("; " if value and isinstance(value[0], dict) else " ").join(words)
     return "" if value is None else value
