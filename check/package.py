@@ -5,6 +5,7 @@ types, where it is installed. Its one argument is the program. What lacks its to
 `N passed, M failed`."""
 
 import os
+import re
 import shutil
 import subprocess
 import sys
@@ -39,6 +40,13 @@ def first() -> str:
     return Board.of(read_games(b"7g7f")[0].start).sfen()
 """
 WRONG = USER + "\n\nnumber: int = Engine.popen(['usi_host']).analyse('startpos').best\n"
+
+
+# The example of the guide, and the form of the lines that it prints: two moves, and then a line for each depth.
+with open(os.path.join(TOP, "docs", "GUIDE.md"), encoding="utf-8") as page:
+    GUIDE = page.read().partition("```python\n")[2].partition("```")[0]
+SCORED = r"Centipawns\(points=-?\d+\)"
+SHOWN = [rf"\S+ \[\(1, {SCORED}, \(.*\)\), \(2, {SCORED}, \(.*\)\)\]", *(rf"{depth} {SCORED} \(.*\)" for depth in range(1, 5))]
 
 
 def run(*words, **how):
@@ -85,12 +93,16 @@ def both_have_each_file():
     want(["Requires-Dist" in about, "\nVersion: 0.1.0\n" in about], [False, True], "what it says of itself")
 
 
+def found_in(folder):
+    """An environment in which programs of this folder are found first."""
+    return {**os.environ, "LC_ALL": "C.UTF-8", "PATH": f"{folder}:{os.environ['PATH']}"}
+
+
 def outputs(words, sent, path, folder):
     """What a command prints, and the page that it writes."""
     page = os.path.join(folder, "page.html")
     words = [word.format(socket=path, page=page) for word in words]
-    environment = {**os.environ, "LC_ALL": "C.UTF-8", "PATH": f"{folder}:{os.environ['PATH']}"}
-    seen = [run(*words, input=sent, cwd=folder, env=environment)]
+    seen = [run(*words, input=sent, cwd=folder, env=found_in(folder))]
     if page in words:
         with open(page, encoding="utf-8") as file:
             seen.append(file.read())
@@ -112,6 +124,8 @@ def commands_do_what_scripts_do():
         table = run(os.path.join(made().bin, "shogi-status"), os.path.join(folder, "status"))
         [answers] = [int(row.split()[-1]) for row in table.splitlines() if row.startswith("bestmove")]
         want(answers >= 2 * (2 + 4 + 4) + 1, True, f"the answers that the host counts: {table}")
+        shown = run(python, "-c", GUIDE, cwd=folder, env=found_in(folder))
+        want(bool(re.fullmatch("\n".join([*SHOWN, ""]), shown)), True, f"the example of the guide: {shown}")
     for name in (*COMMANDS, "status"):
         ended = subprocess.run([os.path.join(made().bin, f"shogi-{name}"), "--no-such"], capture_output=True, check=False)
         want((ended.returncode, f"usage: shogi-{name} ".encode() in ended.stderr), (2, True), f"shogi-{name} --no-such")
