@@ -132,12 +132,13 @@ def commands_do_what_scripts_do():
 
 
 def types_are_checked():
-    run("mypy", "--strict", "shogi_host", cwd=EXAMPLES)
+    mypy = ["mypy", "--strict", "--cache-dir", os.devnull]
+    run(*mypy, "shogi_host", cwd=EXAMPLES)
     for text, status in ((USER, 0), (WRONG, 1)):
         with tempfile.TemporaryDirectory() as folder:
             with open(os.path.join(folder, "user.py"), "w", encoding="ascii") as file:
                 file.write(text)
-            words = ["mypy", "--strict", "--python-executable", os.path.join(made().bin, "python"), "user.py"]
+            words = [*mypy, "--python-executable", os.path.join(made().bin, "python"), "user.py"]
             ended = subprocess.run(words, capture_output=True, text=True, cwd=folder, timeout=PATIENCE, check=False)
             if (ended.returncode, ended.stdout.count("error:")) != (status, status):
                 raise Wrong(f"mypy: {ended.stdout}{ended.stderr}")

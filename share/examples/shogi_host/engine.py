@@ -174,7 +174,7 @@ class Search:
     next question begins it anew."""
 
     def __init__(self, engine: "Engine", depth: Optional[Value]):
-        self._engine, self._depth, self._end = engine, depth, engine.deadline()
+        self._engine, self._depth, self._end = engine, depth, engine._deadline()
         self._lines: list[Line] = []
         self._answer: Optional[Answer] = None
         self._failure: Optional[EngineError] = None
@@ -210,7 +210,7 @@ class Search:
         """Whether nothing more comes of it."""
         return self._answer is not None or self._failure is not None
 
-    def end(self, why: EngineError) -> None:
+    def _fail(self, why: EngineError) -> None:
         """Nothing more comes of it, for this reason."""
         if not self.is_over:
             self._failure = why
@@ -218,7 +218,7 @@ class Search:
     def close(self) -> None:
         """Leaves it."""
         if not self.is_over:
-            self._engine.cut()
+            self._engine._cut()
 
     def __enter__(self) -> "Search":
         return self
@@ -272,9 +272,9 @@ class Engine:
     def popen(
         cls: Type[E], command: Sequence[str], *, timeout: Optional[float] = None, lines: Optional[int] = 1
     ) -> E:
-        """Starts a program, by its name and its arguments. The reply to a line may take `timeout` seconds, or as long as
-        it takes where that is None; one that takes longer raises `TooSlow` and ends the session. An answer has `lines`
-        lines a depth, or as many as the host's setup says where that is None."""
+        """Starts a program, by its name and its arguments. The reply to a line may take `timeout` seconds, without one as
+        long as it takes; one that takes longer raises `TooSlow` and ends the session. An answer has `lines` lines a depth,
+        or as many as the host's setup says if that is None."""
         return cls(command=[command] if isinstance(command, str) else command, timeout=timeout, lines=lines)
 
     @classmethod
@@ -287,8 +287,8 @@ class Engine:
         lines: Optional[int] = 1,
         tell: Optional[Callable[[str], None]] = None,
     ) -> E:
-        """Connects to the host at a socket, and waits up to `patience` seconds for it to be there and to have room; after
-        one second it calls `tell` with what it waits for. `timeout` and `lines` are as for `popen`."""
+        """Connects to the host at a socket, and waits up to `patience` seconds for it to be there and to have room. After
+        a second it calls `tell` with what it waits for. `timeout` and `lines` are as for `popen`."""
         return cls(path=path, patience=patience, timeout=timeout, lines=lines, tell=tell)
 
     def __enter__(self: E) -> E:
@@ -301,14 +301,14 @@ class Engine:
 
     def begin(self) -> None:
         """Starts the program, or connects to the host, asks what it offers, and sets the session's options."""
-        self.end()
+        self._end()
         if self.command is not None:
             self.program = Program(self.command)
             self._lines = self.program.lines
             try:
-                self.greet()
+                self._greet()
             except BaseException:
-                self.end()
+                self._end()
                 raise
             return
         began, is_told = time.monotonic(), False
@@ -317,12 +317,12 @@ class Engine:
                 self.socket = socket.socket(socket.AF_UNIX)
                 self.socket.connect(self.path or "")
                 self._lines = Lines(self.socket.fileno(), self.socket.fileno())
-                self.greet()
+                self._greet()
                 return
             except (TooSlow, Lacking):
                 raise
             except (OSError, Gone) as cause:
-                self.end()
+                self._end()
                 waited = time.monotonic() - began
                 why = cause if isinstance(cause, Gone) else Gone(f"{self.path}: {cause.strerror or cause}")
                 # Without a number it is the path itself that no host can have.
@@ -333,7 +333,7 @@ class Engine:
                     is_told = True
                 time.sleep(0.2)
 
-    def greet(self) -> None:
+    def _greet(self) -> None:
         """Asks who the host is and what it offers, and sets the options that the session has. Those that were never
         set are what the first host began with, since another one may begin with others."""
         # A full host says so and ends, maybe before it is asked; the others answer.
@@ -363,18 +363,18 @@ class Engine:
         try:
             yield
         except ValueError as why:
-            self.end()
+            self._end()
             raise Lacking(f"{self.name}: {why}") from why
 
     def close(self) -> None:
         """Ends the session for good, and the program too where it does not end by that within a second."""
-        self.end()
+        self._end()
         self._is_closed = True
 
-    def end(self, patience: float = 1.0) -> None:
+    def _end(self, patience: float = 1.0) -> None:
         """Ends the session, and the program too where it does not end by that within `patience` seconds."""
         if self._search is not None:
-            self._search.end(Gone(f"{self.name}: the session is ended"))
+            self._search._fail(Gone(f"{self.name}: the session is ended"))
         if self.socket is not None:
             self.socket.close()
         if self.program is not None:
@@ -382,13 +382,13 @@ class Engine:
         self.program = self.socket = self._lines = self._search = None
         self._is_cut = False
 
-    def end_of(self) -> Gone:
+    def _end_of(self) -> Gone:
         """How the host went away."""
         if self.program is not None:
             return Gone(f"{self.name}: {end_words(self.program.status())}")
         return Gone(f"{self.name}: the host has ended the connection")
 
-    def lines(self) -> Lines:
+    def _open(self) -> Lines:
         """The lines of the session; raises `Gone` where it is ended."""
         if self._lines is None:
             raise Gone(f"{self.name}: the session is ended")
@@ -404,23 +404,23 @@ class Engine:
         if len(data) > LINE_MAX + 1:
             raise Refused(f"line too long: {len(data) - 1} bytes, and a host takes {LINE_MAX}")
         try:
-            self.lines().write(data)
+            self._open().write(data)
         except OSError as why:
-            raise self.end_of() from why
+            raise self._end_of() from why
 
-    def deadline(self) -> Optional[float]:
+    def _deadline(self) -> Optional[float]:
         """When a reply that is awaited from now on comes too late; None for never."""
         return None if self.timeout is None else time.monotonic() + self.timeout
 
     def read_reply(self, end: Optional[float] = None) -> str:
         """The next reply, which has to come before the time `end`: else it raises `TooSlow` and ends the session."""
         try:
-            reply = self.lines().read(end).decode(errors="replace")
+            reply = self._open().read(end).decode(errors="replace")
         except TimeoutError as why:
-            self.end(patience=0)
+            self._end(patience=0)
             raise TooSlow(f"{self.name}: no answer within {self.timeout:g} s") from why
         except EOFError as why:
-            raise self.end_of() from why
+            raise self._end_of() from why
         if reply == "info string host full":
             raise HostFull(f"{self.name}: the host has as many clients as it takes")
         return reply
@@ -428,7 +428,7 @@ class Engine:
     def read_until(self, word: str) -> list[str]:
         """The replies up to the one that begins with the word, with that one."""
         replies: list[str] = []
-        end = self.deadline()
+        end = self._deadline()
         while True:
             replies.append(self.read_reply(end))
             if replies[-1].split(" ", 1)[0] == word:
@@ -445,12 +445,12 @@ class Engine:
             raise Lacking(f"{self.name}: an answer to go depth {depth} without an info line for each depth")
         return answer
 
-    def cut(self) -> None:
+    def _cut(self) -> None:
         """Ends a session in the middle of a search; the next question begins it anew."""
-        self.end(patience=0)
+        self._end(patience=0)
         self._is_cut = True
 
-    def settle(self) -> None:
+    def _settle(self) -> None:
         """Begins the session anew, with its options and its position, where a search was left."""
         if self._search is not None:
             self._search.close()
@@ -463,7 +463,7 @@ class Engine:
         """Sets options. Raises `ValueError`, and sends nothing, where the host has no such option or value."""
         for name, value in options.items():
             want_option(self.offered, name, value)
-        self.settle()
+        self._settle()
         for name, value in options.items():
             self.options[name] = value
             self.send(f"setoption name {name} value {value}")
@@ -490,7 +490,7 @@ class Engine:
         """Sets the position: an SFEN, `sfen ..` or `startpos`, with `moves ..` behind it or not. Raises `Refused`
         where the host does not accept it."""
         text = text_of(position)
-        self.settle()
+        self._settle()
         self.send(f"position {text}")
         self.send("isready")
         for reply in self.read_until("readyok"):
@@ -503,7 +503,7 @@ class Engine:
         and sends nothing, where the host does not search to that depth, or shows no so many lines."""
         self.want_depth(depth)
         self.want_lines(lines)
-        self.settle()
+        self._settle()
         shown = self.options.get("MultiPV", self.defaults.get("MultiPV")) if lines is None else lines
         if shown is not None and "MultiPV" in self.offered and str(shown) != str(self._shown):
             self.send(f"setoption name MultiPV value {shown}")

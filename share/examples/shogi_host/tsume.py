@@ -21,7 +21,7 @@ import csv
 import json
 import os
 import sys
-from typing import Any, Optional, Sequence
+from typing import Any, Optional
 
 from .analyse import want_place, write_file
 from .commands import PROGRAM_HINT, in_order, seconds_of, show_progress, tell, write_utf8
