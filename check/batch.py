@@ -16,7 +16,7 @@ import sys
 import tempfile
 import time
 
-from checks import PROGRAM, TOP, Wrong, run_all, want
+from checks import IS_UNPROVED, PROGRAM, TOP, Wrong, run_all, want
 
 EXAMPLES = os.path.join(TOP, "share", "examples")
 BATCH, DEPLOY, GRADE = os.path.join(EXAMPLES, "batch"), os.path.join(TOP, "deploy"), os.path.join(EXAMPLES, "grade.py")
@@ -29,7 +29,7 @@ from shogi_host.records.board import name_of  # noqa: E402
 
 PATIENCE, MANY_PATIENCE = 120, 3_600
 # So many positions of random games, none longer than that, are graded in each way at this depth.
-MANY, GAME_MAX, MANY_DEPTH = 10_000, 120, "2"
+MANY, GAME_MAX, MANY_DEPTH = 10_000, 120, "1" if IS_UNPROVED else "2"
 
 # The program; the first one that is asked for its third search kills a process so many steps above it, and none after it.
 KILLER = """#!{python} -B
