@@ -4,6 +4,7 @@ against a real host: its output is that of the script in `share/examples`. mypy 
 types, where it is installed. Its one argument is the program. What lacks its tools is left out by name. Its last line is
 `N passed, M failed`."""
 
+import importlib.util
 import os
 import re
 import shutil
@@ -153,6 +154,9 @@ def main():
         tried = subprocess.run([os.path.join(TOP, "check", "package.sh"), folder], capture_output=True, text=True, check=False)
     if tried.returncode == 3:
         print(f"package ... left out: {tried.stderr.strip()}")
+        checks = []
+    elif importlib.util.find_spec("ensurepip") is None:
+        print("package ... left out: this Python has no ensurepip (Debian's python3-venv)")
         checks = []
     return run_all("package", checks)
 
