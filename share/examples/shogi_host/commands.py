@@ -119,10 +119,14 @@ def add_arguments(parser: argparse.ArgumentParser, depth: Optional[int] = 6, tol
     )
 
 
+# The entries of the table of a program that is started here, as `usi_analyst` has them: from depth 7 on they save work.
+ENTRIES = "65536"
+
+
 def command_of(program: str, depth: int) -> list[str]:
     """The words that start the program. One that does not know the evaluation Exchange refuses its words with
     the status 2, and is started without them."""
-    words = [program, "stdio", "--eval", "exchange", "--depth", str(depth)]
+    words = [program, "stdio", "--eval", "exchange", "--depth", str(depth), "--entries", ENTRIES]
     try:
         tried = subprocess.run(words, stdin=subprocess.DEVNULL, capture_output=True, timeout=120, check=False)
     except OSError as why:
