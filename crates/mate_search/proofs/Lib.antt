@@ -3,5 +3,6 @@ pub mod LineLaws
 mod ValueLaws
 mod StageLaws
 mod OrderLaws
+mod BoundLaws
 mod MainLine
 mod ShortestLaws

@@ -1,6 +1,6 @@
 -- Moves in another order, some of them skipped, settle a mate alike.
 use Rattle.std.proofs.Common.{◌≡◌, ◌≢◌, ℕ, ◌-◌, ◌<◌, ◌≤◌, List, [], ◌∷◌, Bool, true, false, not, refl, sym, ap, ◌∙◌, arith, inl, inr, filter, length}
-use Rattle.std.specs.Prelude.{◌&&◌, ◌||◌, ◌↔◌, IsTrue}
+use Rattle.std.specs.Prelude.{zero, suc, ◌&&◌, ◌||◌, ◌↔◌, IsTrue}
 use Rattle.std.specs.List.{list_any, list_all}
 use Rattle.std.proofs.lemmas.Bool.{cases_Bool, both_ways}
 use Rattle.std.proofs.lemmas.List.Folds.{list_any-append, list_all-append}
@@ -15,7 +15,7 @@ use Rattle.shogi_moves.specs.LegalMoves.{legal_codes, legal_from}
 use Rattle.shogi_moves.specs.Sweeps.{matching_from}
 use Rattle.shogi_replies.specs.Passes.{IsSkipped}
 use Rattle.mate_search.specs.Mates.{is_mated, mates}
-use Rattle.mate_search.specs.Stages.{IsUnchecking, ordered_codes}
+use Rattle.mate_search.specs.Stages.{IsUnmating, ordered_codes}
 use Rattle.mate_search.proofs.MateLaws.{mates_by, is_met_by, mated_unchecked, mates_none, mates_first, mated_first, mated_step}
 
 -- ---- some or all of two parts of a list
@@ -60,12 +60,25 @@ mates_by-more : (p : Shogi) (n code : ℕ) (codes : List ℕ) → mates_by p n (
 unfolding mates_by
 mates_by-more p n code codes = refl
 
+none_win : (ns : List ℕ) (f : ℕ → Bool) → ((n : ℕ) → f n ≡ false) → ns ≢ [] → list_all f ns ≡ false
+none_win [] f h some = absurd (some refl)
+none_win (n ∷ ns) f h some = rw (h n) refl
+
+-- a side that has a move is not mated at once
+mated_answered : (q : Shogi) (n : ℕ) → n ≡ 0 → legal_codes q ≢ [] → is_mated q n ≡ false
+unfolding is_met_by
+mated_answered q n e some = let met : is_met_by q n (legal_codes q) ≡ false = none_win (legal_codes q) (λ reply. mates (after_code q reply) n) (λ reply. mates_none (after_code q reply) n e) some in grind (arith, mated_step q n, met)
+
+unmating_fails : (p : Shogi) (escapes n code : ℕ) → (n ≢ 0 → escapes ≡ 0) → IsUnmating p escapes code → is_mated (after_code p code) n ≡ false
+unmating_fails p escapes zero code h u = mated_answered (after_code p code) zero refl u.answered
+unmating_fails p escapes (suc n) code h u = mated_unchecked (after_code p code) (suc n) (u.unchecked (h (λ e. absurd (cc))))
+
 -- they mate nobody
-pub skipped_fail : (p : Shogi) (n : ℕ) (codes left : List ℕ) → IsSkipped (IsUnchecking p) codes left → mates_by p n left ≡ mates_by p n codes
-skipped_fail p n [] left s = ap (mates_by p n) (sym s)
-skipped_fail p n (c ∷ codes) left s = elim s [
+pub skipped_fail : (p : Shogi) (escapes n : ℕ) (codes left : List ℕ) → (n ≢ 0 → escapes ≡ 0) → IsSkipped (IsUnmating p escapes) codes left → mates_by p n left ≡ mates_by p n codes
+skipped_fail p escapes n [] left h s = ap (mates_by p n) (sym s)
+skipped_fail p escapes n (c ∷ codes) left h s = elim s [
   | inl same ↦ ap (mates_by p n) (sym same)
-  | inr more ↦ skipped_fail p n codes left more.1 ∙ sym (rw (mates_by-more p n c codes, mated_unchecked (after_code p c) n more.0) refl)
+  | inr more ↦ skipped_fail p escapes n codes left h more.1 ∙ sym (rw (mates_by-more p n c codes, unmating_fails p escapes n c h more.0) refl)
 ]
 
 -- and leave no more moves than there were
@@ -83,10 +96,6 @@ pub no_escapes : (p : Shogi) (squares : ℕ) → squares ≡ 0 → AreEscapes p 
 no_escapes p squares e = λ k n hk king hn set. absurd (both_ways (has_bit squares n) (ap (λ (s : ℕ). has_bit s n) e ∙ has_bit-none n) set)
 
 -- ---- mate at once
-
-none_win : (ns : List ℕ) (f : ℕ → Bool) → ((n : ℕ) → f n ≡ false) → ns ≢ [] → list_all f ns ≡ false
-none_win [] f h some = absurd (some refl)
-none_win (n ∷ ns) f h some = rw (h n) refl
 
 pub mated_now : (q : Shogi) (n : ℕ) (movable : Bool) → n ≡ 0 → in_check q.cells q.side ≡ true → (IsTrue movable ↔ (legal_codes q ≢ [])) → not movable ≡ is_mated q n
 unfolding is_met_by

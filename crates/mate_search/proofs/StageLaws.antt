@@ -11,10 +11,11 @@ use Rattle.shogi_moves.specs.Legal.{is_legal_code, is_some_and_legal}
 use Rattle.shogi_moves.specs.Sweeps.{matching_drops}
 use Rattle.shogi_moves.specs.Walks.{IsNextOf}
 use Rattle.shogi_moves.proofs.SweepLaws.{no_captures}
-use Rattle.shogi_replies.specs.Passes.{IsGuaranteedMove, IsGuaranteedDrop, IsSkipped}
+use Rattle.shogi_replies.specs.Passes.{IsGuaranteedMove, IsGuaranteedDrop, IsSkipped, LeavesReply}
+use Rattle.shogi_replies.proofs.ReplyLaws.{quiet_legal}
 use Rattle.shogi_core.specs.declared.piece.Kind.{Kind}
 use Rattle.shogi_replies.specs.declared.move_filter.MoveFilter.{MoveFilter}
-use Rattle.mate_search.specs.Stages.{IsUnchecking}
+use Rattle.mate_search.specs.Stages.{IsUnmating}
 
 -- the other side is to move after a legal move
 side_after_some : (p : Shogi) (m : Option Move) → is_some_and_legal p m ≡ true → (after_some p m).side ≡ opponent_of p.side
@@ -25,9 +26,12 @@ pub side_after : (p : Shogi) (code : ℕ) → is_legal_code p code ≡ true → 
 unfolding after_code is_legal_code
 side_after p code e = side_after_some p (move_of code) e
 
--- a move that is skipped gives no check
-pub move_gives_none : (p : Shogi) (code : ℕ) → is_legal_code p code ≡ true → in_check (after_code p code).cells (opponent_of p.side) ≡ false → IsUnchecking p code
-move_gives_none p code legal none = ap (in_check (after_code p code).cells) (side_after p code legal) ∙ none
+-- a move that is skipped does not mate
+pub move_unmates : (p : Shogi) (escapes code : ℕ) → is_legal_code p code ≡ true → LeavesReply p escapes code → IsUnmating p escapes code
+move_unmates p escapes code legal leaves = record {
+  answered = quiet_legal (after_code p code) leaves.replied;
+  unchecked = λ none. ap (in_check (after_code p code).cells) (side_after p code legal) ∙ leaves.unchecked none;
+}
 
 -- the same of each move that is skipped
 pub skipped_each : (f g : ℕ → Type 0) (codes left : List ℕ) → ((c : ℕ) → f c → g c) → IsSkipped f codes left → IsSkipped g codes left
@@ -46,13 +50,13 @@ skipped_before f (c ∷ codes) left rest s = elim s [
   | inr more ↦ inr (more.0, skipped_before f codes left rest more.1)
 ]
 
-pub moves_skipped : (p : Shogi) (capture : Bool) (mf : MoveFilter) (escapes first : ℕ) (codes left : List ℕ) → escapes ≡ 0 → IsSkipped (IsGuaranteedMove p capture mf escapes first) codes left → IsSkipped (IsUnchecking p) codes left
-moves_skipped p capture mf escapes first codes left none s =
-    skipped_each (IsGuaranteedMove p capture mf escapes first) (IsUnchecking p) codes left (λ c g. move_gives_none p c (and_parts (is_legal_code p c) _ g.matching).0 (g.leaves.unchecked none)) s
+pub moves_skipped : (p : Shogi) (capture : Bool) (mf : MoveFilter) (escapes first : ℕ) (codes left : List ℕ) → IsSkipped (IsGuaranteedMove p capture mf escapes first) codes left → IsSkipped (IsUnmating p escapes) codes left
+moves_skipped p capture mf escapes first codes left s =
+    skipped_each (IsGuaranteedMove p capture mf escapes first) (IsUnmating p escapes) codes left (λ c g. move_unmates p escapes c (and_parts (is_legal_code p c) _ g.matching).0 g.leaves) s
 
-pub drops_skipped : (p : Shogi) (kind : Kind) (squares escapes first : ℕ) (codes left : List ℕ) → escapes ≡ 0 → IsSkipped (IsGuaranteedDrop p kind squares escapes first) codes left → IsSkipped (IsUnchecking p) codes left
-drops_skipped p kind squares escapes first codes left none s =
-    skipped_each (IsGuaranteedDrop p kind squares escapes first) (IsUnchecking p) codes left (λ c g. move_gives_none p c g.legal (g.leaves.unchecked none)) s
+pub drops_skipped : (p : Shogi) (kind : Kind) (squares escapes first : ℕ) (codes left : List ℕ) → IsSkipped (IsGuaranteedDrop p kind squares escapes first) codes left → IsSkipped (IsUnmating p escapes) codes left
+drops_skipped p kind squares escapes first codes left s =
+    skipped_each (IsGuaranteedDrop p kind squares escapes first) (IsUnmating p escapes) codes left (λ c g. move_unmates p escapes c g.legal g.leaves) s
 
 -- the same, told of another front of the list
 pub skipped_of : (f : ℕ → Type 0) (codes same left : List ℕ) → same ≡ codes → IsSkipped f codes left → IsSkipped f same left

@@ -1,8 +1,9 @@
 -- A way through all legal moves: captures, then the other moves on the board, then drops, each in the order of codes (own choice).
-use Rattle.std.specs.Prelude.{◌≡◌, ℕ, false, true, List, ◌++◌}
+use Rattle.std.specs.Prelude.{◌≡◌, ◌≢◌, ℕ, false, true, List, [], ◌++◌}
 use Rattle.shogi_core.specs.Attack.{in_check}
 use Rattle.shogi_core.specs.Position.{Shogi}
 use Rattle.shogi_moves.specs.After.{after_code}
+use Rattle.shogi_moves.specs.LegalMoves.{legal_codes}
 use Rattle.shogi_moves.specs.Sweeps.{IsBoardSweep, IsDropSweep, board_left, drops_left, matching_from}
 use Rattle.mate_search.specs.declared.stages.Stage.{Stage}
 use Rattle.mate_search.specs.declared.stages.Stage.TheVariants.{Captures, Quiets, Drops}
@@ -22,6 +23,8 @@ stage_left p (Drops sweep) = drops_left p sweep
 abbrev pub ordered_codes : Shogi → List ℕ
 ordered_codes p = matching_from p true 0 ++ matching_from p false 0
 
--- the move gives no check
-abbrev pub IsUnchecking : Shogi → ℕ → Type 0
-IsUnchecking p code = in_check (after_code p code).cells (after_code p code).side ≡ false
+-- after the move the other side has a legal one and, where no escapes are given, is in no check
+pub record IsUnmating (p : Shogi) (escapes code : ℕ) : Type 0 where
+  pub answered : legal_codes (after_code p code) ≢ []
+  pub unchecked : escapes ≡ 0
+      → in_check (after_code p code).cells (after_code p code).side ≡ false

@@ -5,6 +5,7 @@ ghost use Rattle.mate_search.specs.Mates.{AppendsMoves, keys, line};
 ghost use Rattle.mate_search.specs.declared.by_checks.TheConstants.{MOVES_MAX};
 
 use crate::by_checks::is_mated;
+use crate::memo::Memo;
 use crate::solution::{first_key, longest_defence};
 use shogi_core::{Move, Position};
 use shogi_moves::{Walk, advance};
@@ -16,6 +17,7 @@ pub fn append_keys<A: Allocator>(
     out: &mut Vec<Move, A>,
     p: &Position,
     n: u8,
+    memo: &mut Memo<A>,
 ) -> Result<(), AllocError>
     requires { n ≤ MOVES_MAX }
     ensures { AppendsMoves result out.old out.new (keys p.now n) }
@@ -25,7 +27,7 @@ pub fn append_keys<A: Allocator>(
         let mut next = *p;
         let played = &m;
         advance(&mut next, *played);
-        if is_mated(&next, n) {
+        if is_mated(&next, n, memo) {
             out.push(*played)?;
         }
     }
@@ -38,6 +40,7 @@ pub fn append_line<A: Allocator>(
     out: &mut Vec<Move, A>,
     p: &Position,
     n: u8,
+    memo: &mut Memo<A>,
 ) -> Result<(), AllocError>
     requires { n ≤ MOVES_MAX }
     ensures { AppendsMoves result out.old out.new (line p.now n) }
@@ -46,13 +49,13 @@ pub fn append_line<A: Allocator>(
     let mut left = n;
     'moves: while left > 0 {
         left -= 1;
-        let Some(key) = first_key(&now, left) else {
+        let Some(key) = first_key(&now, left, memo) else {
             return Ok(());
         };
         let played = &key;
         advance(&mut now, *played);
         out.push(*played)?;
-        let Some(reply) = longest_defence(&now, left) else {
+        let Some(reply) = longest_defence(&now, left, memo) else {
             return Ok(());
         };
         let answered = &reply;

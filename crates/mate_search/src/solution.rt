@@ -10,11 +10,13 @@ ghost use Rattle.minimax.specs.Minimax.{value};
 ghost use Rattle.minimax.specs.declared.bounds.TheConstants.{MATE};
 ghost use Rattle.shogi_eval.specs.declared.eval.Eval.{Eval};
 
-use crate::by_checks::{MOVES_MAX, is_mated, mates};
+use crate::by_checks::{MOVES_MAX, is_mated, last_escapes, mates};
+use crate::memo::Memo;
 use crate::stages::Stage;
-use shogi_core::{Move, Position, Squares};
+use shogi_core::{Move, Position};
 use shogi_moves::{Walk, advance};
 use shogi_replies::ReplyInfo;
+use std::alloc::Allocator;
 
 /// Who is told while a mate is sought. What it does has no part in the answer.
 pub trait MateProgress {
@@ -29,21 +31,26 @@ impl MateProgress for () {
 
 /// Whether the side to move mates by checks in one move and at most n after it, which tells each first
 /// move that fails.
-fn mates_telling<P: MateProgress>(p: &Position, n: u8, progress: &mut P) -> bool
+fn mates_telling<P: MateProgress, A: Allocator>(
+    p: &Position,
+    n: u8,
+    progress: &mut P,
+    memo: &mut Memo<A>,
+) -> bool
     requires { n < MOVES_MAX }
     ensures { result ≡ mates p.now (suc n) }
 {
-    let replies = ReplyInfo::of(p).at(p, Squares::none());
+    let replies = ReplyInfo::of(p).at(p, last_escapes(p, n));
     let mut stage = Stage::first(p);
     'moves: loop {
-        stage.skip_unchecking(&replies);
+        stage.skip_unmating(&replies);
         let Some(m) = stage.next(p) else {
             return false;
         };
         let mut next = *p;
         let played = &m;
         advance(&mut next, *played);
-        if is_mated(&next, n) {
+        if is_mated(&next, n, memo) {
             return true;
         }
         progress.failed(played, n);
@@ -54,7 +61,12 @@ fn mates_telling<P: MateProgress>(p: &Position, n: u8, progress: &mut P) -> bool
 /// under each evaluation at 2 n - 1 plies, and its main line has so many, the last of which mates. Told
 /// is each first move that fails, for one move more at a time.
 #[tactic(auto, using(crate::proofs::ValueLaws::mate_wins, crate::proofs::ValueLaws::mates_more))]
-pub fn shortest<P: MateProgress>(p: &Position, most: u8, progress: &mut P) -> Option<u8>
+pub fn shortest<P: MateProgress, A: Allocator>(
+    p: &Position,
+    most: u8,
+    progress: &mut P,
+    memo: &mut Memo<A>,
+) -> Option<u8>
     requires { most ≤ MOVES_MAX }
     ensures found { result ≡ shortest p.now most }
     ensures least { IsShortestWithin p.now most result }
@@ -64,7 +76,7 @@ pub fn shortest<P: MateProgress>(p: &Position, most: u8, progress: &mut P) -> Op
 {
     let mut n: u8 = 0;
     'numbers: while n < most {
-        let found = mates_telling(p, n, progress);
+        let found = mates_telling(p, n, progress, memo);
         n += 1;
         if found {
             return Some(n);
@@ -74,7 +86,7 @@ pub fn shortest<P: MateProgress>(p: &Position, most: u8, progress: &mut P) -> Op
 }
 
 /// The key of least code: the first move that mates with at most n moves after it.
-pub fn first_key(p: &Position, n: u8) -> Option<Move>
+pub fn first_key<A: Allocator>(p: &Position, n: u8, memo: &mut Memo<A>) -> Option<Move>
     requires { n ≤ MOVES_MAX }
     ensures key { option_map code_of result ≡ first_key p.now n }
     ensures legal { IfSome result (λ m. is_legal p.now m ≡ true) }
@@ -84,7 +96,7 @@ pub fn first_key(p: &Position, n: u8) -> Option<Move>
         let mut next = *p;
         let played = &m;
         advance(&mut next, *played);
-        if is_mated(&next, n) {
+        if is_mated(&next, n, memo) {
             return Some(*played);
         }
     }
@@ -92,7 +104,7 @@ pub fn first_key(p: &Position, n: u8) -> Option<Move>
 }
 
 /// The reply of least code after which there is no mate in fewer than n further moves.
-pub fn longest_defence(q: &Position, n: u8) -> Option<Move>
+pub fn longest_defence<A: Allocator>(q: &Position, n: u8, memo: &mut Memo<A>) -> Option<Move>
     requires { n ≤ MOVES_MAX }
     ensures defence { option_map code_of result ≡ longest_defence q.now n }
     ensures legal { IfSome result (λ m. is_legal q.now m ≡ true) }
@@ -103,7 +115,7 @@ pub fn longest_defence(q: &Position, n: u8) -> Option<Move>
         let mut next = *q;
         let played = &m;
         advance(&mut next, *played);
-        if !mates(&next, fewer) {
+        if !mates(&next, fewer, memo) {
             return Some(*played);
         }
     }

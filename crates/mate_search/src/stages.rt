@@ -5,7 +5,7 @@ ghost use Rattle.shogi_moves.specs.Legal.{is_legal};
 ghost use Rattle.shogi_moves.specs.Sweeps.{IsBoardSweep, drops_left, matching_drops, matching_from};
 ghost use Rattle.shogi_moves.specs.Walks.{IsNextOf};
 ghost use Rattle.shogi_replies.specs.Passes.{IsSkipped};
-ghost use Rattle.mate_search.specs.Stages.{IsUnchecking, IsStage, ordered_codes, stage_left};
+ghost use Rattle.mate_search.specs.Stages.{IsUnmating, IsStage, ordered_codes, stage_left};
 
 use shogi_core::{Move, Position, Squares};
 use shogi_moves::{BoardSweep, DropSweep, KnownPosition, check_info_of};
@@ -85,13 +85,13 @@ impl Stage {
         }
     }
 
-    /// Skips next moves that surely give no check: by a look at squares alone, and only such as leave
-    /// the other side a move, so there may be more.
-    pub fn skip_unchecking(&mut self, replies: &KnownReplies<'_>)
+    /// Skips next moves that surely do not mate: after which the other side surely has a legal move and, if
+    /// no escapes are given, is in no check. A look at squares alone decides, so there may be more.
+    pub fn skip_unmating(&mut self, replies: &KnownReplies<'_>)
         requires consistent { IsStage replies.now.position.now self.old }
-        requires no_escapes { replies.now.escapes.bits ≡ 0 }
         ensures consistent { IsStage replies.now.position.now self.new }
-        ensures skipped { IsSkipped (IsUnchecking replies.now.position.now)
+        ensures skipped { IsSkipped
+            (IsUnmating replies.now.position.now replies.now.escapes.bits)
             (stage_left replies.now.position.now self.old)
             (stage_left replies.now.position.now self.new) }
     {
