@@ -1,7 +1,7 @@
 //! Mates by checks of which the length, the keys and the line are known from elsewhere.
 
 use crate::boards::{position, read};
-use mate_search::{MOVES_MAX, append_keys, append_line, is_mated, shortest};
+use mate_search::{MOVES_MAX, Memo, append_keys, append_line, is_mated, shortest};
 use shogi_core::Move;
 use std::alloc::Global;
 use std::test::Fail;

@@ -9,7 +9,7 @@ ghost use Rattle.usi_app.specs.Mates.{AreAnswers, IsInputAnswered, IsAnsweredInP
 use crate::counts::{NOT_ACCEPTED, OUT_OF_MEMORY, complain, refuse};
 use crate::runs::{DONE, FAULT, print_out};
 use crate::teller::Teller;
-use mate_search::MateProgress;
+use mate_search::{MateProgress, Memo};
 use std::alloc::Allocator;
 use std::rt::Clock;
 use usi_lines::{Line, LineBuffer};
@@ -38,6 +38,7 @@ fn either(a: bool, b: bool) -> bool
 fn answer_line<A: Allocator + Copy, P: MateProgress, T: FrontEnd>(
     alloc: A,
     progress: &mut P,
+    memo: &mut Memo<A>,
     front_end: &mut T,
     options: MateOptions,
     line: Line<'_>,
@@ -54,7 +55,7 @@ fn answer_line<A: Allocator + Copy, P: MateProgress, T: FrontEnd>(
         return Err(StdioFault::OutOfMemory);
     };
     let mut out = Vec::new(alloc);
-    let Ok(bad) = write_answer(alloc, &mut out, number, line, options, progress) else {
+    let Ok(bad) = write_answer(alloc, &mut out, number, line, options, progress, memo) else {
         return Err(StdioFault::OutOfMemory);
     };
     write_out(front_end, out.as_slice())?;
@@ -68,6 +69,7 @@ fn answer_line<A: Allocator + Copy, P: MateProgress, T: FrontEnd>(
 fn answer_chunk<A: Allocator + Copy, P: MateProgress, T: FrontEnd>(
     alloc: A,
     progress: &mut P,
+    memo: &mut Memo<A>,
     front_end: &mut T,
     options: MateOptions,
     lines: &mut LineBuffer<A>,
@@ -85,7 +87,7 @@ fn answer_chunk<A: Allocator + Copy, P: MateProgress, T: FrontEnd>(
         return Err(StdioFault::OutOfMemory);
     }
     'lines: while let Some(line) = lines.next_line() {
-        answer_line(alloc, progress, front_end, options, line, answered)?;
+        answer_line(alloc, progress, memo, front_end, options, line, answered)?;
         lines.drop_line();
     }
     Ok(())
@@ -95,6 +97,7 @@ fn answer_chunk<A: Allocator + Copy, P: MateProgress, T: FrontEnd>(
 fn answer_all<A: Allocator + Copy, P: MateProgress, T: FrontEnd>(
     alloc: A,
     progress: &mut P,
+    memo: &mut Memo<A>,
     front_end: &mut T,
     options: MateOptions,
 ) -> Result<bool, StdioFault>
@@ -121,6 +124,7 @@ fn answer_all<A: Allocator + Copy, P: MateProgress, T: FrontEnd>(
             answer_chunk(
                 alloc,
                 progress,
+                memo,
                 front_end,
                 options,
                 &mut lines,
@@ -133,6 +137,7 @@ fn answer_all<A: Allocator + Copy, P: MateProgress, T: FrontEnd>(
         answer_chunk(
             alloc,
             progress,
+            memo,
             front_end,
             options,
             &mut lines,
@@ -162,6 +167,7 @@ fn solve_lines<E: Eprint, A: Allocator + Copy, P: MateProgress, T: FrontEnd>(
     errors: &E,
     alloc: A,
     progress: &mut P,
+    memo: &mut Memo<A>,
     front_end: &mut T,
     options: MateOptions,
 ) -> u8
@@ -169,7 +175,7 @@ fn solve_lines<E: Eprint, A: Allocator + Copy, P: MateProgress, T: FrontEnd>(
     requires most { options.most ≤ MOVES_MAX }
     ensures { AreAnswers options (T.report front_end.old) (T.report front_end.new) result }
 {
-    let ended = answer_all(alloc, progress, front_end, options);
+    let ended = answer_all(alloc, progress, memo, front_end, options);
     status_of_answers(errors, &ended)
 }
 
@@ -179,6 +185,7 @@ fn solve_text<E: Eprint, A: Allocator + Copy, P: MateProgress, T: FrontEnd>(
     errors: &E,
     alloc: A,
     progress: &mut P,
+    memo: &mut Memo<A>,
     front_end: &mut T,
     sfen: &[u8],
     options: MateOptions,
@@ -193,7 +200,7 @@ fn solve_text<E: Eprint, A: Allocator + Copy, P: MateProgress, T: FrontEnd>(
         Err(refusal) => return refuse(errors, alloc, refusal),
     };
     let mut text = Vec::new(alloc);
-    match write_mate(alloc, &mut text, &p, options, progress) {
+    match write_mate(alloc, &mut text, &p, options, progress, memo) {
         Ok(()) => print_out(errors, front_end, text.as_slice()),
         Err(_) => complain(errors, OUT_OF_MEMORY, FAULT),
     }
@@ -216,8 +223,9 @@ pub fn solving<E: Eprint + Clock, A: Allocator + Copy, T: FrontEnd>(
         (T.report front_end.old) (T.report front_end.new) result }
 {
     let mut teller = Teller::new(errors, tells);
+    let mut memo = Memo::new(alloc);
     match sfen {
-        Some(text) => solve_text(errors, alloc, &mut teller, front_end, text, options),
-        None => solve_lines(errors, alloc, &mut teller, front_end, options),
+        Some(text) => solve_text(errors, alloc, &mut teller, &mut memo, front_end, text, options),
+        None => solve_lines(errors, alloc, &mut teller, &mut memo, front_end, options),
     }
 }

@@ -10,7 +10,7 @@ ghost use Rattle.usi_moves.specs.MateAnswers.{AppendsAnswer, bad_line_text, numb
 use crate::asked::{position_of_text, write_reason};
 use crate::solutions::{MateOptions, write_mate};
 use itoa::Buffer;
-use mate_search::MateProgress;
+use mate_search::{MateProgress, Memo};
 use std::alloc::{AllocError, Allocator};
 use usi_lines::Line;
 use usi_texts::Refusal;
@@ -62,6 +62,7 @@ pub fn write_answer<A: Allocator + Copy, P: MateProgress>(
     line: Line<'_>,
     options: MateOptions,
     progress: &mut P,
+    memo: &mut Memo<A>,
 ) -> Result<bool, AllocError>
     requires least { 1 ≤ options.most }
     requires most { options.most ≤ MOVES_MAX }
@@ -76,7 +77,7 @@ pub fn write_answer<A: Allocator + Copy, P: MateProgress>(
     }
     match position_of_text(text) {
         Ok(p) => {
-            write_mate(alloc, out, &p, options, progress)?;
+            write_mate(alloc, out, &p, options, progress, memo)?;
             Ok(false)
         }
         Err(refusal) => {

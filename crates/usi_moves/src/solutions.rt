@@ -8,7 +8,9 @@ ghost use Rattle.usi_moves.specs.Listings.{Appends};
 ghost use Rattle.usi_moves.specs.Solutions.{AppendsLists, AppendsNode, found_text, key_lists, keys_line, keys_text, length_text, mate_text, none_text, verdict_text, word_of, move_words};
 
 use itoa::Buffer;
-use mate_search::{MateProgress, append_keys, append_line, first_key, longest_defence, shortest};
+use mate_search::{
+    MateProgress, Memo, append_keys, append_line, first_key, longest_defence, shortest,
+};
 use shogi_core::{Move, Position};
 use shogi_moves::advance;
 use shogi_sfen::write_move;
@@ -54,12 +56,13 @@ fn write_line<A: Allocator + Copy>(
     out: &mut Vec<u8, A>,
     p: &Position,
     n: u8,
+    memo: &mut Memo<A>,
 ) -> Result<(), AllocError>
     requires { n ≤ MOVES_MAX }
     ensures { Appends result out.old out.new (move_words (line p.now n)) }
 {
     let mut moves = Vec::new(alloc);
-    append_line(&mut moves, p, n)?;
+    append_line(&mut moves, p, n, memo)?;
     write_words(out, moves.as_slice())
 }
 
@@ -89,13 +92,14 @@ fn write_node<A: Allocator + Copy>(
     out: &mut Vec<u8, A>,
     p: &Position,
     n: u8,
+    memo: &mut Memo<A>,
 ) -> Result<usize, AllocError>
     requires { n ≤ MOVES_MAX }
     ensures node { AppendsNode result out.old out.new (keys p.now n) }
     ensures most { IfOk result (λ several. several ≤ 1) }
 {
     let mut moves = Vec::new(alloc);
-    append_keys(&mut moves, p, n)?;
+    append_keys(&mut moves, p, n, memo)?;
     write_keys_line(out, moves.as_slice())?;
     Ok(one_if_several(moves.as_slice()))
 }
@@ -107,6 +111,7 @@ fn write_key_lists<A: Allocator + Copy>(
     out: &mut Vec<u8, A>,
     p: &Position,
     n: u8,
+    memo: &mut Memo<A>,
 ) -> Result<usize, AllocError>
     requires { n ≤ MOVES_MAX }
     ensures { AppendsLists result out.old out.new (key_lists p.now n) }
@@ -116,13 +121,13 @@ fn write_key_lists<A: Allocator + Copy>(
     let mut left = n;
     'moves: while left > 0 {
         left -= 1;
-        several += write_node(alloc, out, &now, left)?;
-        let Some(key) = first_key(&now, left) else {
+        several += write_node(alloc, out, &now, left, memo)?;
+        let Some(key) = first_key(&now, left, memo) else {
             return Ok(several);
         };
         let played = &key;
         advance(&mut now, *played);
-        let Some(reply) = longest_defence(&now, left) else {
+        let Some(reply) = longest_defence(&now, left, memo) else {
             return Ok(several);
         };
         let answered = &reply;
@@ -153,11 +158,12 @@ fn write_keys<A: Allocator + Copy>(
     out: &mut Vec<u8, A>,
     p: &Position,
     n: u8,
+    memo: &mut Memo<A>,
 ) -> Result<(), AllocError>
     requires { n ≤ MOVES_MAX }
     ensures { Appends result out.old out.new (keys_text (key_lists p.now n)) }
 {
-    let several = write_key_lists(alloc, out, p, n)?;
+    let several = write_key_lists(alloc, out, p, n, memo)?;
     write_verdict(out, several)
 }
 
@@ -179,6 +185,7 @@ fn write_length<A: Allocator + Copy>(
     p: &Position,
     n: u8,
     with_line: bool,
+    memo: &mut Memo<A>,
 ) -> Result<(), AllocError>
     requires least { 1 ≤ n }
     requires most { n ≤ MOVES_MAX }
@@ -187,7 +194,7 @@ fn write_length<A: Allocator + Copy>(
     out.extend_from_slice(b"mate ")?;
     write_plies(out, n)?;
     if with_line {
-        write_line(alloc, out, p, n)?;
+        write_line(alloc, out, p, n, memo)?;
     }
     out.extend_from_slice(b"\n")
 }
@@ -212,14 +219,15 @@ fn write_found<A: Allocator + Copy>(
     p: &Position,
     n: u8,
     options: MateOptions,
+    memo: &mut Memo<A>,
 ) -> Result<(), AllocError>
     requires least { 1 ≤ n }
     requires most { n ≤ MOVES_MAX }
     ensures { Appends result out.old out.new (found_text p.now options (Some n)) }
 {
-    write_length(alloc, out, p, n, options.line)?;
+    write_length(alloc, out, p, n, options.line, memo)?;
     if options.keys {
-        write_keys(alloc, out, p, n)?;
+        write_keys(alloc, out, p, n, memo)?;
     }
     Ok(())
 }
@@ -227,20 +235,21 @@ fn write_found<A: Allocator + Copy>(
 /// Appends the length of the shortest mate by checks of at most so many moves of the attacker, at least
 /// 1, and what else is asked for: its main line, and the keys of each of the attacker's positions on it.
 /// Or that there is no such mate. On an error a front of it was appended. Told is each first move that
-/// fails.
+/// fails. The memo may be one that served other positions.
 pub fn write_mate<A: Allocator + Copy, P: MateProgress>(
     alloc: A,
     out: &mut Vec<u8, A>,
     p: &Position,
     options: MateOptions,
     progress: &mut P,
+    memo: &mut Memo<A>,
 ) -> Result<(), AllocError>
     requires least { 1 ≤ options.most }
     requires most { options.most ≤ MOVES_MAX }
     ensures { Appends result out.old out.new (mate_text p.now options) }
 {
-    match shortest(p, options.most, progress) {
-        Some(n) => write_found(alloc, out, p, n, options),
+    match shortest(p, options.most, progress, memo) {
+        Some(n) => write_found(alloc, out, p, n, options, memo),
         None => write_none(out, options.most),
     }
 }
