@@ -82,6 +82,10 @@ pub fn mates<A: Allocator>(p: &Position, n: u8, memo: &mut Memo<A>) -> bool
     if n == 0 {
         return false;
     }
+    // A last move is found about as fast as an entry.
+    if n == 1 {
+        return has_key(p, n, memo);
+    }
     let known = memo.known(p);
     if let Some(answer) = known.answer(n) {
         return answer;

@@ -24,16 +24,19 @@ fn are(moves: &[Move], text: &str) -> Result<bool, Fail> {
 fn is_solved(alloc: Global, sfen: &str, n: u8, keys: &str, line: &str) -> Result<bool, Fail> {
     let p = position(sfen)?;
     let n = n.min(MOVES_MAX);
+    let mut memo = Memo::new(alloc);
     let mut found = Vec::new(alloc);
-    append_keys(&mut found, &p, n.saturating_sub(1))?;
+    append_keys(&mut found, &p, n.saturating_sub(1), &mut memo)?;
     let mut played = Vec::new(alloc);
-    append_line(&mut played, &p, n)?;
-    Ok(shortest(&p, 5, &mut ()) == Some(n) && are(&found, keys)? && are(&played, line)?)
+    append_line(&mut played, &p, n, &mut memo)?;
+    let least = shortest(&p, 5, &mut (), &mut memo);
+    Ok(least == Some(n) && are(&found, keys)? && are(&played, line)?)
 }
 
 /// Whether there is no mate in so many moves or fewer.
-fn has_none(sfen: &str, most: u8) -> Result<bool, Fail> {
-    Ok(shortest(&position(sfen)?, most.min(MOVES_MAX), &mut ()).is_none())
+fn has_none(alloc: Global, sfen: &str, most: u8) -> Result<bool, Fail> {
+    let mut memo = Memo::new(alloc);
+    Ok(shortest(&position(sfen)?, most.min(MOVES_MAX), &mut (), &mut memo).is_none())
 }
 
 /// A gold that a pawn protects, at the king's head.
@@ -46,7 +49,7 @@ fn gold_at_the_head(rt: HostRuntime) -> Result<(), Fail> {
 /// A dropped pawn may not mate; a lance may.
 #[test]
 fn a_pawn_and_a_lance(rt: HostRuntime) -> Result<(), Fail> {
-    holds!(rt; has_none("7nk/9/7G1/9/9/9/9/9/9 b P", 3)?);
+    holds!(rt; has_none(rt.alloc(), "7nk/9/7G1/9/9/9/9/9/9 b P", 3)?);
     holds!(rt; is_solved(rt.alloc(), "7nk/9/7G1/9/9/9/9/9/9 b L", 1, "L*1b", "L*1b")?);
     Ok(())
 }
@@ -65,23 +68,24 @@ fn interpositions_count(rt: HostRuntime) -> Result<(), Fail> {
 #[test]
 fn a_check_is_answered_first(rt: HostRuntime) -> Result<(), Fail> {
     holds!(rt; is_solved(rt.alloc(), "4k4/9/4P4/9/9/9/9/9/4K4 b G", 1, "G*5b", "G*5b")?);
-    holds!(rt; has_none("4k4/9/4P4/9/9/9/9/9/r3K4 b G", 2)?);
+    holds!(rt; has_none(rt.alloc(), "4k4/9/4P4/9/9/9/9/9/r3K4 b G", 2)?);
     Ok(())
 }
 
 /// Without a king there is no check.
 #[test]
 fn no_king(rt: HostRuntime) -> Result<(), Fail> {
-    holds!(rt; has_none("9/9/4P4/9/9/9/9/9/4K4 b G", 2)?);
+    holds!(rt; has_none(rt.alloc(), "9/9/4P4/9/9/9/9/9/4K4 b G", 2)?);
     Ok(())
 }
 
 /// A side that has no move and is in no check is not mated: after 2b2c+ here, which `go` takes for a win.
 #[test]
 fn stalemate_is_no_mate(rt: HostRuntime) -> Result<(), Fail> {
-    holds!(rt; !is_mated(&position("8k/6G2/7G1/9/9/9/9/9/9 w -")?, 1));
-    holds!(rt; is_mated(&position("8k/8G/7G1/9/9/9/9/9/9 w -")?, 0));
-    holds!(rt; has_none("8k/7R1/6S2/9/9/9/9/9/9 b -", 1)?);
+    let mut memo = Memo::new(rt.alloc());
+    holds!(rt; !is_mated(&position("8k/6G2/7G1/9/9/9/9/9/9 w -")?, 1, &mut memo));
+    holds!(rt; is_mated(&position("8k/8G/7G1/9/9/9/9/9/9 w -")?, 0, &mut memo));
+    holds!(rt; has_none(rt.alloc(), "8k/7R1/6S2/9/9/9/9/9/9 b -", 1)?);
     Ok(())
 }
 
@@ -108,14 +112,14 @@ fn five_plies(rt: HostRuntime) -> Result<(), Fail> {
     holds!(rt; is_solved(rt.alloc(), sfen, 3, "B*3a", "B*3a 4b4c G*4d 4c3b 4d3c")?);
     let quiet = "3Gpk1B1/9/9/5G3/9/9/9/9/9 b GNL2rbg4s3n3l17p";
     holds!(rt; is_solved(rt.alloc(), quiet, 3, "G*4b", "G*4b 4a4b 4d4c 4b3a 2a3b+")?);
-    holds!(rt; has_none(quiet, 2)?);
+    holds!(rt; has_none(rt.alloc(), quiet, 2)?);
     Ok(())
 }
 
 /// None in five plies, in the opening position and where a piece is given.
 #[test]
 fn no_mate(rt: HostRuntime) -> Result<(), Fail> {
-    holds!(rt; has_none("lnsgkgsnl/1r5b1/ppppppppp/9/9/9/PPPPPPPPP/1B5R1/LNSGKGSNL b -", 3)?);
+    holds!(rt; has_none(rt.alloc(), "lnsgkgsnl/1r5b1/ppppppppp/9/9/9/PPPPPPPPP/1B5R1/LNSGKGSNL b -", 3)?);
     Ok(())
 }
 
@@ -166,7 +170,7 @@ fn a_full_hand(rt: HostRuntime) -> Result<(), Fail> {
 /// A quiet promotion wins in three plies here; by checks there is nothing in nine.
 #[test]
 fn only_a_quiet_move_wins(rt: HostRuntime) -> Result<(), Fail> {
-    holds!(rt; has_none("4k4/9/9/4P4/9/9/9/9/9 b G", 5)?);
+    holds!(rt; has_none(rt.alloc(), "4k4/9/9/4P4/9/9/9/9/9 b G", 5)?);
     Ok(())
 }
 
@@ -186,7 +190,7 @@ fn seven_plies(rt: HostRuntime) -> Result<(), Fail> {
     let sfen = "2+N2B1nl/3S1+Sgg1/p2+B1pk2/1p2p1ppp/P1Pp5/1PK1nRP2/L2P4P/5+l2+l/1GGsr4 b SN2P2p";
     let line = "4f4c 3b4c 4b4c 3c4c 6c5c 4c3c N*4e";
     holds!(rt; is_solved(rt.alloc(), sfen, 4, "4f4c 4f4c+", line)?);
-    holds!(rt; has_none(sfen, 3)?);
+    holds!(rt; has_none(rt.alloc(), sfen, 3)?);
     Ok(())
 }
 
@@ -196,9 +200,10 @@ fn nine_plies(rt: HostRuntime) -> Result<(), Fail> {
     let p = position(
         "1+P1g3nl/5gk2/1S+L6/p2+r3pp/1R2Ppp2/P2+b3PP/6P2/2P2NK2/L2+p1P1NL w GSNbg2s4p",
     )?;
-    holds!(rt; shortest(&p, 5, &mut ()) == Some(5));
+    let mut memo = Memo::new(rt.alloc());
+    holds!(rt; shortest(&p, 5, &mut (), &mut memo) == Some(5));
     let mut played = Vec::new(rt.alloc());
-    append_line(&mut played, &p, 5)?;
+    append_line(&mut played, &p, 5, &mut memo)?;
     let line = "6f4h 3h4h S*4g 4h4g B*5f 4g4h 6d6h 4h3i 5f3h+";
     holds!(rt; are(&played, line)?);
     Ok(())

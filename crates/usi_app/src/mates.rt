@@ -225,7 +225,15 @@ pub fn solving<E: Eprint + Clock, A: Allocator + Copy, T: FrontEnd>(
     let mut teller = Teller::new(errors, tells);
     let mut memo = Memo::new(alloc);
     match sfen {
-        Some(text) => solve_text(errors, alloc, &mut teller, &mut memo, front_end, text, options),
+        Some(text) => solve_text(
+            errors,
+            alloc,
+            &mut teller,
+            &mut memo,
+            front_end,
+            text,
+            options,
+        ),
         None => solve_lines(errors, alloc, &mut teller, &mut memo, front_end, options),
     }
 }
