@@ -84,10 +84,10 @@ consumed_all setup bytes read None c ended = absurd c
 consumed_all setup bytes read (Some rest) c (inl e) = ap (replies_under setup) (sym (c ∙ (ap (λ (xs : List ℕ). read ++ xs) e ∙ append-nil read)))
 consumed_all setup bytes read (Some rest) c (inr over) = sym (over_replies setup read rest over) ∙ ap (replies_under setup) (sym c)
 
-given_replies : (setup : Setup) (input left old new : Option (List ℕ)) (s : stdio.IsAnswered setup input left old new) (bytes : List ℕ) → IsGiven setup input left old new s bytes → replies_under setup s.read ≡ replies_under setup bytes
+given_replies : (setup : Setup) (input left old new : Option (List ℕ)) (s : stdio.AnswersInput setup input left old new) (bytes : List ℕ) → IsGiven setup input left old new s bytes → replies_under setup s.read ≡ replies_under setup bytes
 given_replies setup input left old new s bytes (inl e) = consumed_all setup bytes s.read left (rw e at s.consumed) s.ended
 given_replies setup input left old new s bytes (inr e) = ap (replies_under setup) e
 
-pub as_alone : (before after : Scene) (link : Link) (a : IsAnswered (new_duty before.host.setup) before after link) → IsUndisturbed (new_duty before.host.setup) before after link a → (input left old new : Option (List ℕ)) (s : stdio.IsAnswered before.host.setup input left old new) → IsGiven before.host.setup input left old new s a.served.read → Appends old new a.served.written
+pub as_alone : (before after : Scene) (link : Link) (a : IsAnswered (new_duty before.host.setup) before after link) → IsUndisturbed (new_duty before.host.setup) before after link a → (input left old new : Option (List ℕ)) (s : stdio.AnswersInput before.host.setup input left old new) → IsGiven before.host.setup input left old new s a.served.read → Appends old new a.served.written
 as_alone before after link a p input left old new s given =
     rw (said (new_duty before.host.setup) before after link a p ∙ sym (given_replies before.host.setup input left old new s a.served.read given)) s.written

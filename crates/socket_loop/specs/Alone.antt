@@ -28,7 +28,7 @@ IsolatesConnections =
 
 -- these bytes are the whole input of `stdio`, or all it reads
 abbrev pub IsGiven : (setup : Setup) (input left old new : Option (List ℕ))
-    → stdio.IsAnswered setup input left old new → List ℕ → Type 0
+    → stdio.AnswersInput setup input left old new → List ℕ → Type 0
 IsGiven setup input left old new s bytes = (input ≡ Some bytes) ⊎ (s.read ≡ bytes)
 
 -- an undisturbed connection, accepted in a serving, is written what `stdio` writes for its input under the host's
@@ -39,6 +39,6 @@ AnswersAsAlone =
     (a : IsAnswered (new_duty before.host.setup) before after link)
     → IsUndisturbed (new_duty before.host.setup) before after link a
     → (input left old new : Option (List ℕ))
-    (s : stdio.IsAnswered before.host.setup input left old new)
+    (s : stdio.AnswersInput before.host.setup input left old new)
     → IsGiven before.host.setup input left old new s a.served.read
     → Appends old new a.served.written

@@ -2,7 +2,7 @@
 
 ghost use Rattle.std.specs.Prelude.{OnOk};
 ghost use Rattle.usi_texts.specs.Setup.{default_setup};
-ghost use Rattle.usi_stdio.specs.Stdio.{IsServed};
+ghost use Rattle.usi_stdio.specs.Stdio.{IsFrontEndServed};
 
 use std::alloc::Allocator;
 use usi_stdio::{FrontEnd, StdioFault, stdio};
@@ -13,7 +13,7 @@ pub fn answer_all<A: Allocator + Copy, T: FrontEnd>(
     front_end: &mut T,
 ) -> Result<(), StdioFault>
     ensures { OnOk result
-        (IsServed default_setup (T.report front_end.old) (T.report front_end.new)) }
+        (IsFrontEndServed default_setup (T.report front_end.old) (T.report front_end.new)) }
 {
     stdio(alloc, front_end, 4096)
 }

@@ -7,8 +7,8 @@ use Rattle.usi_lines.specs.Lines.{Buffer, IsAheadAfter, IsFirstAhead, Line, ahea
 use Rattle.usi_lines.specs.declared.line.TheConstants.{LINE_FEED}
 use Rattle.usi_moves.specs.MateAnswers.{has_bad_line, input_answers, is_bad, line_answer, line_answers}
 use Rattle.usi_moves.specs.declared.solutions.MateOptions.{MateOptions}
-use Rattle.usi_stdio.specs.Calls.{Reads, Report}
-use Rattle.usi_stdio.specs.Saying.{Says, SaysPrefix}
+use Rattle.usi_stdio.specs.Calls.{ReadsInput, StdioReport}
+use Rattle.usi_stdio.specs.Saying.{SaysFlushed, SaysPrefix}
 use Rattle.usi_stdio.specs.declared.streams.StdioFault.{StdioFault}
 use Rattle.usi_stdio.specs.declared.streams.StdioFault.TheVariants.{OutOfMemory}
 use Rattle.usi_stdio.proofs.Talking.{says_nothing, says_then}
@@ -48,16 +48,16 @@ answer_is number lines options line bytes items fresh next same empty is =
     same ∙ (is ∙ (ap (λ xs. xs ++ line_answer options number line) empty ∙ ap (λ (k : ℕ). line_answer options k line) next))
 
 -- the answer of the line was written
-pub line_done : (options : MateOptions) (line : Line) (before after : Answered) (number : ℕ) (bad : Bool) (bytes items fresh : List ℕ) (old new : Report) → number ≡ before.lines + 1 → bytes ≡ items → fresh ≡ []
-    → (items ≡ fresh ++ line_answer options number line) × (bad ≡ is_bad line) → Says old new bytes → after.lines ≡ number → after.bad ≡ (before.bad || bad) → IsLineAnswered options line before after old new
+pub line_done : (options : MateOptions) (line : Line) (before after : Answered) (number : ℕ) (bad : Bool) (bytes items fresh : List ℕ) (old new : StdioReport) → number ≡ before.lines + 1 → bytes ≡ items → fresh ≡ []
+    → (items ≡ fresh ++ line_answer options number line) × (bad ≡ is_bad line) → SaysFlushed old new bytes → after.lines ≡ number → after.bad ≡ (before.bad || bad) → IsLineAnswered options line before after old new
 line_done options line before after number bad bytes items fresh old new next same empty is said lines_are bad_is = record {
-  said = subst (λ xs. Says old new xs) (answer_is number before.lines options line bytes items fresh next same empty is.0) said;
+  said = subst (λ xs. SaysFlushed old new xs) (answer_is number before.lines options line bytes items fresh next same empty is.0) said;
   number = lines_are ∙ next;
   bad = bad_is ∙ ap (λ (b : Bool). before.bad || b) is.1;
 }
 
 -- a prefix of the answer was written
-pub line_cut : (options : MateOptions) (line : Line) (before : Answered) (number : ℕ) (bad : Bool) (bytes items fresh : List ℕ) (old new : Report) (fault : StdioFault) → number ≡ before.lines + 1 → bytes ≡ items → fresh ≡ []
+pub line_cut : (options : MateOptions) (line : Line) (before : Answered) (number : ℕ) (bad : Bool) (bytes items fresh : List ℕ) (old new : StdioReport) (fault : StdioFault) → number ≡ before.lines + 1 → bytes ≡ items → fresh ≡ []
     → (items ≡ fresh ++ line_answer options number line) × (bad ≡ is_bad line) → SaysPrefix old new bytes fault → IsLineCutShort options line before old new fault
 line_cut options line before number bad bytes items fresh old new fault next same empty is cut =
     subst (λ xs. SaysPrefix old new xs fault) (answer_is number before.lines options line bytes items fresh next same empty is.0) cut
@@ -65,7 +65,7 @@ line_cut options line before number bad bytes items fresh old new fault next sam
 -- ---- a chunk
 
 -- before the first line of the chunk
-pub part_start : (options : MateOptions) (chunk : List ℕ) (answered : Answered) (old new : Buffer) (r : Report) → IsAheadAfter chunk old new → IsPartAnswered options chunk answered old answered new r r
+pub part_start : (options : MateOptions) (chunk : List ℕ) (answered : Answered) (old new : Buffer) (r : StdioReport) → IsAheadAfter chunk old new → IsPartAnswered options chunk answered old answered new r r
 part_start options chunk answered old new r after = record {
   made = [];
   written = says_nothing r;
@@ -74,7 +74,7 @@ part_start options chunk answered old new r after = record {
 }
 
 -- one more line was answered
-pub part_more : (options : MateOptions) (chunk : List ℕ) (before mid after : Answered) (buffered was left : Buffer) (line : Line) (old now new : Report) → IsPartAnswered options chunk before buffered mid was old now → IsFirstAhead was line → IsLineAnswered options line mid after now new
+pub part_more : (options : MateOptions) (chunk : List ℕ) (before mid after : Answered) (buffered was left : Buffer) (line : Line) (old now new : StdioReport) → IsPartAnswered options chunk before buffered mid was old now → IsFirstAhead was line → IsLineAnswered options line mid after now new
     → ((x : List ℕ) → ahead left x ≡ drop 1 (ahead was x)) → IsPartAnswered options chunk before buffered after left old new
 part_more options chunk before mid after buffered was left line old now new p first one rest = record {
   made = p.made ++ line_answer options (mid.lines + 1) line;
@@ -94,27 +94,27 @@ part_more options chunk before mid after buffered was left line old now new p fi
 }
 
 -- the answer of the current line was cut short
-pub part_cut : (options : MateOptions) (chunk : List ℕ) (before mid : Answered) (buffered was : Buffer) (line : Line) (old now new : Report) (fault : StdioFault) → IsPartAnswered options chunk before buffered mid was old now → IsFirstAhead was line → IsLineCutShort options line mid now new fault
+pub part_cut : (options : MateOptions) (chunk : List ℕ) (before mid : Answered) (buffered was : Buffer) (line : Line) (old now new : StdioReport) (fault : StdioFault) → IsPartAnswered options chunk before buffered mid was old now → IsFirstAhead was line → IsLineCutShort options line mid now new fault
     → IsChunkCutShort options chunk before buffered old new fault
 part_cut options chunk before mid buffered was line old now new fault p first cut = λ x.
     prefix_then old now new p.made (line_answer options (mid.lines + 1) line) (line_answers options ((mid.lines + 1) + 1) (drop 1 (ahead was x))) (owed_answers options before buffered (chunk ++ x)) fault p.written cut
     (p.owes x ∙ ap (λ xs. p.made ++ xs) (first_answers options (mid.lines + 1) (ahead was x) line (first x)))
 
 -- memory ran out for the chunk
-pub part_none : (options : MateOptions) (chunk : List ℕ) (before : Answered) (buffered : Buffer) (r : Report) → IsChunkCutShort options chunk before buffered r r OutOfMemory
+pub part_none : (options : MateOptions) (chunk : List ℕ) (before : Answered) (buffered : Buffer) (r : StdioReport) → IsChunkCutShort options chunk before buffered r r OutOfMemory
 part_none options chunk before buffered r = λ x. prefix_none r (owed_answers options before buffered (chunk ++ x))
 
 -- ---- the input
 
 -- between two reads: the answers are the bytes written and the answers still owed
-pub record IsBetween (options : MateOptions) (before now : Report) (answered : Answered) (buffer : Buffer) : Type 0 where
+pub record IsBetween (options : MateOptions) (before now : StdioReport) (answered : Answered) (buffer : Buffer) : Type 0 where
   pub read : List ℕ
   pub made : List ℕ
   pub exchanged : IsExchange before now read made
   pub owes : (x : List ℕ) → made ++ owed_answers options answered buffer x ≡ line_answers options 1 (lines (read ++ x))
   pub bad : (x : List ℕ) → owes_bad answered buffer x ≡ list_any is_bad (lines (read ++ x))
 
-pub between_start : (options : MateOptions) (r : Report) (answered : Answered) (buffer : Buffer) → buffer ≡ record { unread = []; closed = false } → answered ≡ record { lines = 0; bad = false } → IsBetween options r r answered buffer
+pub between_start : (options : MateOptions) (r : StdioReport) (answered : Answered) (buffer : Buffer) → buffer ≡ record { unread = []; closed = false } → answered ≡ record { lines = 0; bad = false } → IsBetween options r r answered buffer
 between_start options r answered buffer e f = rw (e, f) (record {
   read = [];
   made = [];
@@ -124,7 +124,7 @@ between_start options r answered buffer e f = rw (e, f) (record {
 })
 
 -- a chunk was read and answered
-pub between_more : {E : Type 0} (options : MateOptions) (before mid now new : Report) (answered after : Answered) (buffer left : Buffer) (buf chunk : List ℕ) (n : ℕ) → IsBetween options before mid answered buffer → Reads {E = E} mid now (Ok n) buf → chunk ≡ take n buf
+pub between_more : {E : Type 0} (options : MateOptions) (before mid now new : StdioReport) (answered after : Answered) (buffer left : Buffer) (buf chunk : List ℕ) (n : ℕ) → IsBetween options before mid answered buffer → ReadsInput {E = E} mid now (Ok n) buf → chunk ≡ take n buf
     → IsPartAnswered options chunk answered buffer after left now new → IsBetween options before new after left
 between_more options before mid now new answered after buffer left buf chunk n b r same p = record {
   read = b.read ++ chunk;
@@ -137,7 +137,7 @@ between_more options before mid now new answered after buffer left buf chunk n b
 }
 
 -- a read failed, and no more was written
-pub between_left : {E : Type 0} (options : MateOptions) (before mid new : Report) (answered : Answered) (buffer : Buffer) (buf : List ℕ) (error : E) → IsBetween options before mid answered buffer → Reads mid new (Err error) buf → IsAnsweredInPart options before new
+pub between_left : {E : Type 0} (options : MateOptions) (before mid new : StdioReport) (answered : Answered) (buffer : Buffer) (buf : List ℕ) (error : E) → IsBetween options before mid answered buffer → ReadsInput mid new (Err error) buf → IsAnsweredInPart options before new
 between_left options before mid new answered buffer buf error b r = record {
   read = b.read;
   written = b.made;
@@ -146,7 +146,7 @@ between_left options before mid new answered buffer buf error b r = record {
   split = sym (b.owes (LINE_FEED ∷ []));
 }
 
-pub between_many : (options : MateOptions) (before now : Report) (answered : Answered) (buffer : Buffer) → IsBetween options before now answered buffer → IsAnsweredInPart options before now
+pub between_many : (options : MateOptions) (before now : StdioReport) (answered : Answered) (buffer : Buffer) → IsBetween options before now answered buffer → IsAnsweredInPart options before now
 between_many options before now answered buffer b = record {
   read = b.read;
   written = b.made;
@@ -156,7 +156,7 @@ between_many options before now answered buffer b = record {
 }
 
 -- a fault while a chunk was answered
-pub between_cut : {E : Type 0} (options : MateOptions) (before mid now new : Report) (answered : Answered) (buffer : Buffer) (buf chunk : List ℕ) (n : ℕ) (fault : StdioFault) → IsBetween options before mid answered buffer → Reads {E = E} mid now (Ok n) buf → chunk ≡ take n buf
+pub between_cut : {E : Type 0} (options : MateOptions) (before mid now new : StdioReport) (answered : Answered) (buffer : Buffer) (buf chunk : List ℕ) (n : ℕ) (fault : StdioFault) → IsBetween options before mid answered buffer → ReadsInput {E = E} mid now (Ok n) buf → chunk ≡ take n buf
     → IsChunkCutShort options chunk answered buffer now new fault → IsAnsweredInPart options before new
 between_cut options before mid now new answered buffer buf chunk n fault b r same cut =
     let prefix = cut (LINE_FEED ∷ []) in
@@ -172,7 +172,7 @@ between_cut options before mid now new answered buffer buf chunk n fault b r sam
 -- ---- the end of the input
 
 -- the last read gave no byte
-at_end : {E : Type 0} (options : MateOptions) (before mid now : Report) (answered : Answered) (buffer : Buffer) (buf : List ℕ) (n : ℕ) → IsBetween options before mid answered buffer → Reads {E = E} mid now (Ok n) buf → n ≡ 0 → IsBetween options before now answered buffer
+at_end : {E : Type 0} (options : MateOptions) (before mid now : StdioReport) (answered : Answered) (buffer : Buffer) (buf : List ℕ) (n : ℕ) → IsBetween options before mid answered buffer → ReadsInput {E = E} mid now (Ok n) buf → n ≡ 0 → IsBetween options before now answered buffer
 at_end options before mid now answered buffer buf n b r none =
     let empty : [] ≡ take n buf = sym (ap (λ (k : ℕ). take k buf) none) in
     record {
@@ -184,7 +184,7 @@ at_end options before mid now answered buffer buf n b r none =
     }
 
 -- the last line was answered, and none is left
-pub between_end : {E : Type 0} (options : MateOptions) (before mid now new : Report) (answered after : Answered) (buffer left : Buffer) (buf : List ℕ) (n : ℕ) → IsBetween options before mid answered buffer → Reads {E = E} mid now (Ok n) buf → n ≡ 0 → IsAtEnd now.unread
+pub between_end : {E : Type 0} (options : MateOptions) (before mid now new : StdioReport) (answered after : Answered) (buffer left : Buffer) (buf : List ℕ) (n : ℕ) → IsBetween options before mid answered buffer → ReadsInput {E = E} mid now (Ok n) buf → n ≡ 0 → IsAtEnd now.unread
     → IsChunkAnswered options (LINE_FEED ∷ []) answered buffer after left now new → IsInputAnswered options before new after.bad
 between_end options before mid now new answered after buffer left buf n b r none ended a =
     let e = at_end options before mid now answered buffer buf n b r none in
@@ -199,7 +199,7 @@ between_end options before mid now new answered after buffer left buf n b r none
     }
 
 -- a prefix of the last line's answer was written
-pub between_cut_at_end : {E : Type 0} (options : MateOptions) (before mid now new : Report) (answered : Answered) (buffer : Buffer) (buf : List ℕ) (n : ℕ) (fault : StdioFault) → IsBetween options before mid answered buffer → Reads {E = E} mid now (Ok n) buf → n ≡ 0
+pub between_cut_at_end : {E : Type 0} (options : MateOptions) (before mid now new : StdioReport) (answered : Answered) (buffer : Buffer) (buf : List ℕ) (n : ℕ) (fault : StdioFault) → IsBetween options before mid answered buffer → ReadsInput {E = E} mid now (Ok n) buf → n ≡ 0
     → IsChunkCutShort options (LINE_FEED ∷ []) answered buffer now new fault → IsAnsweredInPart options before new
 between_cut_at_end options before mid now new answered buffer buf n fault b r none cut =
     let e = at_end options before mid now answered buffer buf n b r none in

@@ -2,7 +2,7 @@
 use Rattle.std.specs.Prelude.{◌≡◌, ◌-◌, ◌*◌, ℕ, Bool, List, Option}
 use Rattle.usi_app.specs.Mates.{IsSolving}
 use Rattle.usi_moves.specs.declared.solutions.MateOptions.{MateOptions}
-use Rattle.usi_stdio.specs.Calls.{Report}
+use Rattle.usi_stdio.specs.Calls.{StdioReport}
 
 -- mates of at most so many plies are sought, with these words
 pub record AreMateOptions (plies : ℕ) (with_line with_keys : Bool) (options : MateOptions)
@@ -12,7 +12,7 @@ pub record AreMateOptions (plies : ℕ) (with_line with_keys : Bool) (options : 
   pub tells_keys : options.keys ≡ with_keys
 
 -- so the position of a text was solved, or, without one, that of each line, with this status
-abbrev pub IsMateAsked : Option (List ℕ) → ℕ → Bool → Bool → Report → Report → ℕ → Type 0
+abbrev pub IsMateAsked : Option (List ℕ) → ℕ → Bool → Bool → StdioReport → StdioReport → ℕ → Type 0
 IsMateAsked sfen plies with_line with_keys old new status =
     (options : MateOptions) × AreMateOptions plies with_line with_keys options
     × IsSolving sfen options old new status

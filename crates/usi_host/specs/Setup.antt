@@ -8,7 +8,7 @@ use Rattle.usi_arguments.specs.declared.setup.Evaluation.{Evaluation}
 use Rattle.usi_arguments.specs.declared.setup.Evaluation.TheVariants as named
 use Rattle.usi_arguments.specs.declared.setup.SetupOptions.{SetupOptions}
 use Rattle.usi_app.specs.Runs.{IsReplay, IsReplayOn, IsSession}
-use Rattle.usi_stdio.specs.Calls.{Report}
+use Rattle.usi_stdio.specs.Calls.{StdioReport}
 use Rattle.usi_texts.specs.Setup.{IsSetupOf}
 use Rattle.usi_texts.specs.declared.setup.Setup.{Setup}
 
@@ -24,11 +24,11 @@ IsAskedFor options setup =
     IsSetupOf options.depth options.max_depth options.lines (eval_of options.evaluation) setup
 
 -- under it the front end was served one session, or what was read was replayed, with this status
-abbrev pub IsSessionAsked : SetupOptions → (entries : ℕ) → Report → Report → ℕ → Type 0
+abbrev pub IsSessionAsked : SetupOptions → (entries : ℕ) → StdioReport → StdioReport → ℕ → Type 0
 IsSessionAsked options entries old new status =
     (setup : Setup) × IsAskedFor options setup × IsSession setup entries old new status
 
-abbrev pub IsReplayAsked : HostOptions → Report → Report → ℕ → Type 0
+abbrev pub IsReplayAsked : HostOptions → StdioReport → StdioReport → ℕ → Type 0
 IsReplayAsked options old new status =
     (setup : Setup) × IsAskedFor options.setup setup × IsReplay setup options.slots old new status
     × IsReplayOn setup options.slots options.entries options.slice old new status

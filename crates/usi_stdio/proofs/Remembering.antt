@@ -13,9 +13,9 @@ use Rattle.usi_session.specs.Roots.{Root}
 use Rattle.usi_session.specs.Told.{AreTold, TellsEndedFor}
 use Rattle.usi_session.proofs.Steps.{no_roots}
 use Rattle.usi_session.proofs.TellsLaws.{none_called, told_and_told}
-use Rattle.usi_stdio.specs.Calls.{Gives, Makes, Read, Reads, Report, given_by, of_calls}
-use Rattle.usi_stdio.specs.Remembered.{TellsFed, TellsMemory, TellsTable, roots_under}
-use Rattle.usi_stdio.specs.Saying.{IsWritten, Says}
+use Rattle.usi_stdio.specs.Calls.{CallsGive, Makes, Read, ReadsInput, StdioReport, given_by_call, of_calls}
+use Rattle.usi_stdio.specs.Remembered.{TellsFed, TellsMemory, TellsNewTable, roots_under}
+use Rattle.usi_stdio.specs.Saying.{IsQueueWritten, SaysFlushed}
 use Rattle.usi_stdio.proofs.Talking.{called_then, gives_nothing, moves_more, says_nothing}
 
 -- a consequence of what holds after a success
@@ -24,8 +24,8 @@ on_ok (Ok x) f p = f p
 on_ok (Err e) f p = tt
 
 -- writing queued bytes changes no search
-pub told_written : {M : Type 0} (called : M → Call → M → Type 0) (a b : M) (s mid t : SessionView) (old new : Report)
-    → EndsSearches called a b s mid → IsWritten mid t old new → EndsSearches called a b s t
+pub told_written : {M : Type 0} (called : M → Call → M → Type 0) (a b : M) (s mid t : SessionView) (old new : StdioReport)
+    → EndsSearches called a b s mid → IsQueueWritten mid t old new → EndsSearches called a b s t
 told_written called a b s mid t old new told w =
     subst (λ (v : SessionView). EndsSearches called a b s v) (sym w.rest)
     (record { ended = told.ended; left = told.left; told = told.told })
@@ -81,37 +81,37 @@ told_over called a b before now chunk rest h over = record {
 }
 
 -- between two reads: each search for the bytes read has ended, or is left
-pub record IsToldOf {M : Type 0} (called : M → Call → M → Type 0) (setup : Setup) (before now : Report) (old new : M) (s : SessionView) : Type 0 where
+pub record IsToldOf {M : Type 0} (called : M → Call → M → Type 0) (setup : Setup) (before now : StdioReport) (old new : M) (s : SessionView) : Type 0 where
   pub read : List ℕ
   pub consumed : Consumes before.unread now.unread read
-  pub given : Gives before.calls now.calls read
+  pub given : CallsGive before.calls now.calls read
   pub ended : List Root
   pub left : (x : List ℕ) → roots_under setup (read ++ x) ≡ ended ++ roots_due s x
   pub told : AreTold called old ended new
 
 -- a run before its first read
-pub told_start : {M : Type 0} (called : M → Call → M → Type 0) (setup : Setup) (r : Report) (a : M) (s : SessionView)
+pub told_start : {M : Type 0} (called : M → Call → M → Type 0) (setup : Setup) (r : StdioReport) (a : M) (s : SessionView)
     → s ≡ new_session_under setup → IsToldOf called setup r r a a s
 unfolding AreTold
 told_start called setup r a s new = record {
   read = [];
   consumed = Consumes-nil r.unread;
-  given = Appends-nil (of_calls given_by r.calls);
+  given = Appends-nil (of_calls given_by_call r.calls);
   ended = [];
   left = λ x. ap (λ (t : SessionView). roots_due t x) (sym new);
   told = none_called called a;
 }
 
 -- a chunk was read, and bytes were written
-gives_chunk : (before mid now new : Report) (read bytes chunk : List ℕ) → Gives before.calls mid.calls read → Makes mid.calls now.calls (Read chunk ∷ []) → (w : Says now new bytes) → Gives before.calls new.calls (read ++ chunk)
+gives_chunk : (before mid now new : StdioReport) (read bytes chunk : List ℕ) → CallsGive before.calls mid.calls read → Makes mid.calls now.calls (Read chunk ∷ []) → (w : SaysFlushed now new bytes) → CallsGive before.calls new.calls (read ++ chunk)
 gives_chunk before mid now new read bytes chunk h r w =
-    let more : Gives mid.calls new.calls (chunk ++ flat_map given_by w.calls) = moves_more given_by mid.calls new.calls (Read chunk ∷ w.calls) (called_then mid.calls now.calls new.calls (Read chunk ∷ []) w.calls r w.called) in
-    let none : chunk ++ flat_map given_by w.calls ≡ chunk = ap (λ xs. chunk ++ xs) (gives_nothing w.calls bytes _ _ w.spoken) ∙ append-nil chunk in
-    Appends-trans (of_calls given_by before.calls) (of_calls given_by mid.calls) (of_calls given_by new.calls) read chunk h (rw none at more)
+    let more : CallsGive mid.calls new.calls (chunk ++ flat_map given_by_call w.calls) = moves_more given_by_call mid.calls new.calls (Read chunk ∷ w.calls) (called_then mid.calls now.calls new.calls (Read chunk ∷ []) w.calls r w.called) in
+    let none : chunk ++ flat_map given_by_call w.calls ≡ chunk = ap (λ xs. chunk ++ xs) (gives_nothing w.calls bytes _ _ w.spoken) ∙ append-nil chunk in
+    Appends-trans (of_calls given_by_call before.calls) (of_calls given_by_call mid.calls) (of_calls given_by_call new.calls) read chunk h (rw none at more)
 
 -- a chunk was read and answered
-pub told_chunk : {M : Type 0} {E : Type 0} (called : M → Call → M → Type 0) (setup : Setup) (before mid now new : Report) (a b c : M) (s t : SessionView) (n : ℕ) (buf chunk bytes : List ℕ)
-    → IsToldOf called setup before mid a b s → Reads {E = E} mid now (Ok n) buf → chunk ≡ take n buf → Says now new bytes
+pub told_chunk : {M : Type 0} {E : Type 0} (called : M → Call → M → Type 0) (setup : Setup) (before mid now new : StdioReport) (a b c : M) (s t : SessionView) (n : ℕ) (buf chunk bytes : List ℕ)
+    → IsToldOf called setup before mid a b s → ReadsInput {E = E} mid now (Ok n) buf → chunk ≡ take n buf → SaysFlushed now new bytes
     → TellsFed called b c s chunk t → IsToldOf called setup before new a c t
 told_chunk called setup before mid now new a b c s t n buf chunk bytes h r same said w = record {
   read = h.read ++ chunk;
@@ -124,13 +124,13 @@ told_chunk called setup before mid now new a b c s t n buf chunk bytes h r same 
   told = told_and_told called a b c h.ended w.ended h.told w.told;
 }
 
-all_told : {M : Type 0} (called : M → Call → M → Type 0) (setup : Setup) (before now : Report) (a b : M) (s : SessionView)
+all_told : {M : Type 0} (called : M → Call → M → Type 0) (setup : Setup) (before now : StdioReport) (a b : M) (s : SessionView)
     (h : IsToldOf called setup before now a b s) → is_pending s ≡ false → h.ended ≡ roots_under setup h.read
 all_told called setup before now a b s h settled =
     sym (append-nil h.ended) ∙ (ap (λ (roots : List Root). h.ended ++ roots) (sym (no_roots s settled)) ∙ (sym (h.left []) ∙ ap (roots_under setup) (append-nil h.read)))
 
 -- all bytes read are answered
-pub told_all : {M : Type 0} (called : M → Call → M → Type 0) (setup : Setup) (before now : Report) (a b : M) (s : SessionView)
+pub told_all : {M : Type 0} (called : M → Call → M → Type 0) (setup : Setup) (before now : StdioReport) (a b : M) (s : SessionView)
     → IsToldOf called setup before now a b s → is_pending s ≡ false → TellsMemory called setup before now a b
 told_all called setup before now a b s h settled = record {
   read = h.read;
@@ -140,17 +140,17 @@ told_all called setup before now a b s h settled = record {
 }
 
 -- the input ended
-pub told_at_end : {M : Type 0} {E : Type 0} (called : M → Call → M → Type 0) (setup : Setup) (before mid now : Report) (a b : M) (s : SessionView) (n : ℕ) (buf : List ℕ)
-    → IsToldOf called setup before mid a b s → Reads {E = E} mid now (Ok n) buf → n ≡ 0 → is_pending s ≡ false → TellsMemory called setup before now a b
+pub told_at_end : {M : Type 0} {E : Type 0} (called : M → Call → M → Type 0) (setup : Setup) (before mid now : StdioReport) (a b : M) (s : SessionView) (n : ℕ) (buf : List ℕ)
+    → IsToldOf called setup before mid a b s → ReadsInput {E = E} mid now (Ok n) buf → n ≡ 0 → is_pending s ≡ false → TellsMemory called setup before now a b
 told_at_end called setup before mid now a b s n buf h r none settled =
     let read : Consumes before.unread now.unread (h.read ++ take n buf) = Consumes-trans before.unread mid.unread now.unread h.read (take n buf) h.consumed r.consumed.0 in
-    let given : Gives before.calls now.calls (h.read ++ take n buf) = gives_chunk before mid now now h.read [] (take n buf) h.given r.called (says_nothing now) in
+    let given : CallsGive before.calls now.calls (h.read ++ take n buf) = gives_chunk before mid now now h.read [] (take n buf) h.given r.called (says_nothing now) in
     let nothing : h.read ++ take n buf ≡ h.read = ap (λ (k : ℕ). h.read ++ take k buf) none ∙ append-nil h.read in
     told_all called setup before now a b s (record { read = h.read; consumed = rw nothing at read; given = rw nothing at given; ended = h.ended; left = h.left; told = h.told }) settled
 
 -- a new table was told each search
-pub told_table : {T E : Type 0} (r : Result T E) (setup : Setup) (entries : ℕ) (before after : Report) (old new : Table)
-    → old ≡ new_table entries → new.capacity ≡ old.capacity → OnOk r (TellsMemory IsUsed setup before after old new) → OnOk r (TellsTable setup entries before after)
+pub told_table : {T E : Type 0} (r : Result T E) (setup : Setup) (entries : ℕ) (before after : StdioReport) (old new : Table)
+    → old ≡ new_table entries → new.capacity ≡ old.capacity → OnOk r (TellsMemory IsUsed setup before after old new) → OnOk r (TellsNewTable setup entries before after)
 told_table (Ok x) setup entries before after old new is kept told = record {
   table = new;
   told = subst (λ (t : Table). TellsMemory IsUsed setup before after t new) is told;

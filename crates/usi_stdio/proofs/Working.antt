@@ -1,14 +1,14 @@
 -- A session whose replies are written slice by slice.
 use Rattle.std.proofs.Common.{◌≡◌, ℕ, List, [], ◌++◌, true, refl, sym, ap, ◌∙◌, append_assoc, Result, IsErrAnd, IfErr, OnOk, OnErr, Ok, Err}
 use Rattle.usi_session.specs.Due.{SessionView, due}
-use Rattle.usi_stdio.specs.Calls.{Report}
-use Rattle.usi_stdio.specs.Saying.{SaysPrefix, Says, IsWorkedOn, asked_by}
+use Rattle.usi_stdio.specs.Calls.{StdioReport}
+use Rattle.usi_stdio.specs.Saying.{SaysPrefix, SaysFlushed, IsWorkedOn, asked_by}
 use Rattle.usi_stdio.specs.declared.streams.StdioFault.{StdioFault}
 use Rattle.usi_stdio.specs.declared.streams.StdioFault.TheVariants.{OutOfMemory}
 use Rattle.usi_stdio.proofs.Talking.{says_nothing, says_then}
 
 -- a prefix of a prefix
-prefix_of_more : (old new : Report) (bytes more all : List ℕ) (fault : StdioFault) → SaysPrefix old new bytes fault → all ≡ bytes ++ more → SaysPrefix old new all fault
+prefix_of_more : (old new : StdioReport) (bytes more all : List ℕ) (fault : StdioFault) → SaysPrefix old new bytes fault → all ≡ bytes ++ more → SaysPrefix old new all fault
 prefix_of_more old new bytes more all fault (left, w) e = (
   left ++ more,
   record {
@@ -20,7 +20,7 @@ prefix_of_more old new bytes more all fault (left, w) e = (
 )
 
 -- nothing was written, and memory was refused
-pub prefix_none : (r : Report) (all : List ℕ) → SaysPrefix r r all OutOfMemory
+pub prefix_none : (r : StdioReport) (all : List ℕ) → SaysPrefix r r all OutOfMemory
 prefix_none r all = (all, record { done = []; is_flushed = true; said = says_nothing r; split = refl })
 
 -- the replies due are the queued ones, and those due without the queue
@@ -28,12 +28,12 @@ pub due-queued : (s : SessionView) (x : List ℕ) → due s x ≡ s.queued ++ du
 due-queued s x = refl
 
 -- a prefix of the queue is a prefix of the replies due, for any further bytes
-pub prefix_of_due : (old new : Report) (before mid : SessionView) (fault : StdioFault) → ((x : List ℕ) → due mid x ≡ due before x) → SaysPrefix old new mid.queued fault → (x : List ℕ) → SaysPrefix old new (due before x) fault
+pub prefix_of_due : (old new : StdioReport) (before mid : SessionView) (fault : StdioFault) → ((x : List ℕ) → due mid x ≡ due before x) → SaysPrefix old new mid.queued fault → (x : List ℕ) → SaysPrefix old new (due before x) fault
 prefix_of_due old new before mid fault kept front x =
     prefix_of_more old new mid.queued (due (record mid { queued = [] }) x) (due before x) fault front (sym (kept x) ∙ due-queued mid x)
 
 -- a prefix of the replies due after a line was fed is one of those due with the line
-pub prefix_of_fed : (old new : Report) (before mid : SessionView) (line : List ℕ) (fault : StdioFault) → ((x : List ℕ) → due mid x ≡ due before (line ++ x)) → ((x : List ℕ) → SaysPrefix old new (due mid x) fault) → (x : List ℕ) → SaysPrefix old new (due before (line ++ x)) fault
+pub prefix_of_fed : (old new : StdioReport) (before mid : SessionView) (line : List ℕ) (fault : StdioFault) → ((x : List ℕ) → due mid x ≡ due before (line ++ x)) → ((x : List ℕ) → SaysPrefix old new (due mid x) fault) → (x : List ℕ) → SaysPrefix old new (due before (line ++ x)) fault
 prefix_of_fed old new before mid line fault fed front x = (
   (front x).0,
   record {
@@ -45,11 +45,11 @@ prefix_of_fed old new before mid line fault fed front x = (
 )
 
 -- a session before its first slice
-pub worked_start : (s : SessionView) (r : Report) → s.queued ≡ [] → IsWorkedOn s s r r
+pub worked_start : (s : SessionView) (r : StdioReport) → s.queued ≡ [] → IsWorkedOn s s r r
 worked_start s r empty = record { made = []; written = says_nothing r; left = λ x. refl; owed = λ x. refl; empty = empty }
 
 -- one more slice
-pub worked_more : (before mid after : SessionView) (old part new : Report) → IsWorkedOn before mid old part → IsWorkedOn mid after part new → IsWorkedOn before after old new
+pub worked_more : (before mid after : SessionView) (old part new : StdioReport) → IsWorkedOn before mid old part → IsWorkedOn mid after part new → IsWorkedOn before after old new
 worked_more before mid after old part new a b = record {
   made = a.made ++ b.made;
   written = says_then old part new a.made b.made _ _ a.written b.written;
@@ -59,7 +59,7 @@ worked_more before mid after old part new a b = record {
 }
 
 -- bytes were written in full, then a prefix of others
-pub said_prefix : (old part new : Report) (said bytes all : List ℕ) (fault : StdioFault) → Says old part said → SaysPrefix part new bytes fault → all ≡ said ++ bytes → SaysPrefix old new all fault
+pub said_prefix : (old part new : StdioReport) (said bytes all : List ℕ) (fault : StdioFault) → SaysFlushed old part said → SaysPrefix part new bytes fault → all ≡ said ++ bytes → SaysPrefix old new all fault
 said_prefix old part new said bytes all fault p (left, w) e = (
   left,
   record {
@@ -71,7 +71,7 @@ said_prefix old part new said bytes all fault p (left, w) e = (
 )
 
 -- a fault cut a slice short
-pub worked_prefix : (before mid : SessionView) (old part new : Report) (fault : StdioFault) → IsWorkedOn before mid old part → ((x : List ℕ) → SaysPrefix part new (due mid x) fault) → (x : List ℕ) → SaysPrefix old new (due before x) fault
+pub worked_prefix : (before mid : SessionView) (old part new : StdioReport) (fault : StdioFault) → IsWorkedOn before mid old part → ((x : List ℕ) → SaysPrefix part new (due mid x) fault) → (x : List ℕ) → SaysPrefix old new (due before x) fault
 worked_prefix before mid old part new fault a front x = said_prefix old part new a.made (due mid x) (due before x) fault a.written (front x) (a.owed x)
 
 -- a property that holds anyway holds after a fault

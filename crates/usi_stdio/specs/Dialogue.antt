@@ -2,7 +2,7 @@
 use Rattle.std.specs.Prelude.{◌≡◌, ◌+◌, ◌-◌, ◌^◌, ◌⊎◌, ℕ, List, [], ◌∷◌, ◌++◌, Bool, true, false, Option, None, Some, Result, Ok, Err}
 use Rattle.usi_texts.specs.declared.setup.Setup.{Setup}
 use Rattle.usi_session.specs.WholeStream.{replies_under, is_over_after_under}
-use Rattle.usi_stdio.specs.Calls.{Call, Read, Write, Flush, FailedRead, FailedWrite, FailedFlush, Makes}
+use Rattle.usi_stdio.specs.Calls.{StdioCall, Read, Write, Flush, FailedRead, FailedWrite, FailedFlush, Makes}
 use Rattle.usi_stdio.specs.declared.streams.StdioFault.{StdioFault}
 use Rattle.usi_stdio.specs.declared.streams.StdioFault.TheVariants as fault
 
@@ -28,7 +28,7 @@ abbrev pub asked_by_write : List ℕ → Option (Result (Unit {0}) StdioFault)
 asked_by_write [] = Some (Err fault.WriteFailed)
 asked_by_write (byte ∷ rest) = None
 
-abbrev pub after_call : Talk → Call → Talk
+abbrev pub after_call : Talk → StdioCall → Talk
 after_call talk (Read bytes) =
     record talk {
       read = talk.read ++ bytes;
@@ -46,27 +46,28 @@ after_call talk FailedRead = record talk { outcome = Some (Err fault.ReadFailed)
 after_call talk FailedWrite = record talk { outcome = Some (Err fault.WriteFailed) }
 after_call talk FailedFlush = record talk { outcome = Some (Err fault.WriteFailed) }
 
-abbrev pub after_calls : Talk → List Call → Talk
+abbrev pub after_calls : Talk → List StdioCall → Talk
 after_calls talk [] = talk
 after_calls talk (call ∷ rest) = after_calls (after_call talk call) rest
 
 -- all replies to the bytes read, under a setup, are written and flushed
-abbrev pub IsSettled : Setup → Talk → Type 0
-IsSettled setup talk = (talk.written ≡ replies_under setup talk.read) × (talk.is_flushed ≡ true)
+abbrev pub HasFlushedReplies : Setup → Talk → Type 0
+HasFlushedReplies setup talk =
+    (talk.written ≡ replies_under setup talk.read) × (talk.is_flushed ≡ true)
 
 -- nothing is read before all replies are written and flushed, nor after the session is over
-abbrev pub MayFollow : Setup → Talk → Call → Type 0
+abbrev pub MayFollow : Setup → Talk → StdioCall → Type 0
 MayFollow setup talk (Read bytes) =
-    IsSettled setup talk × (is_over_after_under setup talk.read ≡ false)
+    HasFlushedReplies setup talk × (is_over_after_under setup talk.read ≡ false)
 MayFollow setup talk FailedRead =
-    IsSettled setup talk × (is_over_after_under setup talk.read ≡ false)
+    HasFlushedReplies setup talk × (is_over_after_under setup talk.read ≡ false)
 MayFollow setup talk (Write bytes) = Unit {0}
 MayFollow setup talk FailedWrite = Unit {0}
 MayFollow setup talk Flush = Unit {0}
 MayFollow setup talk FailedFlush = Unit {0}
 
 -- each call may follow those before it, none of which asked for a result
-abbrev pub IsDialogue : Setup → Talk → List Call → Type 0
+abbrev pub IsDialogue : Setup → Talk → List StdioCall → Type 0
 IsDialogue setup talk [] = Unit {0}
 IsDialogue setup talk (call ∷ rest) =
     (talk.outcome ≡ None) × MayFollow setup talk call × IsDialogue setup (after_call talk call) rest
@@ -74,7 +75,7 @@ IsDialogue setup talk (call ∷ rest) =
 -- success: the input or the session has ended, and all replies are written and flushed. A fault is the one that the last call asked for, but for `OutOfMemory`, and for `ReadFailed` after 2^64 - 1 reads
 abbrev pub EndsAs : Setup → Talk → Result (Unit {0}) StdioFault → Type 0
 EndsAs setup talk (Ok done) =
-    IsSettled setup talk
+    HasFlushedReplies setup talk
     × ((talk.outcome ≡ Some (Ok tt))
     ⊎ ((talk.outcome ≡ None) × (is_over_after_under setup talk.read ≡ true)))
 EndsAs setup talk (Err fault.OutOfMemory) = talk.outcome ≡ None
@@ -88,9 +89,9 @@ abbrev pub IsFront : Setup → Talk → Type 0
 IsFront setup talk = (left : List ℕ) × (replies_under setup talk.read ≡ talk.written ++ left)
 
 -- if calls are reported, the run is a dialogue that ends with this result
-pub record Talks (setup : Setup) (old new : Option (List Call))
+pub record Talks (setup : Setup) (old new : Option (List StdioCall))
     (result : Result (Unit {0}) StdioFault) : Type 0 where
-  pub calls : List Call
+  pub calls : List StdioCall
   pub called : Makes old new calls
   pub dialogue : IsDialogue setup no_call calls
   pub front : IsFront setup (after_calls no_call calls)

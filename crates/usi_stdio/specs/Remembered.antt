@@ -8,7 +8,7 @@ use Rattle.usi_texts.specs.declared.setup.Setup.{Setup}
 use Rattle.usi_session.specs.Due.{SessionView, new_session_under, roots_due}
 use Rattle.usi_session.specs.Roots.{Root}
 use Rattle.usi_session.specs.Told.{AreTold, TellsEndedFor}
-use Rattle.usi_stdio.specs.Calls.{Report, Gives}
+use Rattle.usi_stdio.specs.Calls.{StdioReport, CallsGive}
 
 -- the pv searches of a new session under a setup that is fed these bytes
 abbrev pub roots_under : Setup → List ℕ → List Root
@@ -22,14 +22,14 @@ TellsFed called old new before bytes after =
 
 -- a front end was served over a memo, which was told, in order, each search for the bytes read
 pub record TellsMemory {M : Type 0} (called : M → Call → M → Type 0) (setup : Setup)
-    (before after : Report) (old new : M) : Type 0 where
+    (before after : StdioReport) (old new : M) : Type 0 where
   pub read : List ℕ
   pub consumed : Consumes before.unread after.unread read
-  pub given : Gives before.calls after.calls read
+  pub given : CallsGive before.calls after.calls read
   pub told : AreTold called old (roots_under setup read) new
 
 -- a new table with room for `entries` entries was told each search for the bytes read
-pub record TellsTable (setup : Setup) (entries : ℕ) (before after : Report) : Type 0 where
+pub record TellsNewTable (setup : Setup) (entries : ℕ) (before after : StdioReport) : Type 0 where
   pub table : Table
   pub told : TellsMemory IsUsed setup before after (new_table entries) table
   pub room : table.capacity ≡ entries

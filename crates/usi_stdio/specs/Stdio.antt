@@ -4,7 +4,7 @@ use Rattle.std.specs.Io.KnownBytes.{Appends, Consumes, IsAtEnd}
 use Rattle.usi_texts.specs.declared.setup.Setup.{Setup}
 use Rattle.usi_session.specs.WholeStream.{replies_under, is_over_after_under}
 use Rattle.usi_session.specs.declared.limits.TheConstants.{CHUNK_MAX}
-use Rattle.usi_stdio.specs.Calls.{Report, Gives, Takes}
+use Rattle.usi_stdio.specs.Calls.{StdioReport, CallsGive, CallsTake}
 
 -- the writer took the bytes except the last ones, `left`
 pub record WritesBut (old new : Option (List ℕ)) (bytes left : List ℕ) : Type 0 where
@@ -25,7 +25,7 @@ pub record StopsInTime (setup : Setup) (read : List ℕ) : Type 0 where
   pub alive : is_over_after_under setup prefix ≡ false
 
 -- all replies to the bytes read, under a setup, were written, and the input ended or the session is over
-pub record IsAnswered (setup : Setup) (before after old new : Option (List ℕ)) : Type 0 where
+pub record AnswersInput (setup : Setup) (before after old new : Option (List ℕ)) : Type 0 where
   pub read : List ℕ
   pub consumed : Consumes before after read
   pub written : Appends old new (replies_under setup read)
@@ -40,12 +40,12 @@ pub record IsCutShort (setup : Setup) (before after old new : Option (List ℕ))
   pub stops : StopsInTime setup read
 
 -- a front end was served, or left early, by its report: its bytes, and those that its calls gave and took
-pub record IsServed (setup : Setup) (old new : Report) : Type 0 where
-  pub answered : IsAnswered setup old.unread new.unread old.written new.written
-  pub given : Gives old.calls new.calls answered.read
-  pub taken : Takes old.calls new.calls (replies_under setup answered.read)
+pub record IsFrontEndServed (setup : Setup) (old new : StdioReport) : Type 0 where
+  pub answered : AnswersInput setup old.unread new.unread old.written new.written
+  pub given : CallsGive old.calls new.calls answered.read
+  pub taken : CallsTake old.calls new.calls (replies_under setup answered.read)
 
-pub record IsLeft (setup : Setup) (old new : Report) : Type 0 where
+pub record IsFrontEndLeft (setup : Setup) (old new : StdioReport) : Type 0 where
   pub cut_short : IsCutShort setup old.unread new.unread old.written new.written
-  pub given : Gives old.calls new.calls cut_short.read
-  pub taken : Takes old.calls new.calls cut_short.written.1.done
+  pub given : CallsGive old.calls new.calls cut_short.read
+  pub taken : CallsTake old.calls new.calls cut_short.written.1.done

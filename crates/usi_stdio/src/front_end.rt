@@ -2,8 +2,8 @@
 //! calls come in one order.
 
 ghost use Rattle.std.specs.Prelude.{◌≡◌, [], ◌∷◌, ◌++◌};
-ghost use Rattle.usi_stdio.specs.Calls.{Report, nothing_reported, Reads, Writes, Flushes};
-ghost use Rattle.usi_stdio.specs.Noted.{call_by, calls_of};
+ghost use Rattle.usi_stdio.specs.Calls.{StdioReport, no_stdio_report, ReadsInput, WritesOutput, Flushes};
+ghost use Rattle.usi_stdio.specs.Noted.{call_by, calls_noted};
 
 use byte_logs::Bytes;
 use http_server::Log;
@@ -12,16 +12,16 @@ use std::io::{Read, Result, Write};
 /// The front end of a session. A call that fails moves no byte.
 pub trait FrontEnd {
     /// The front end's report of its bytes and its calls. It may report nothing.
-    ghost report: { Self → Report } = { λ _. nothing_reported };
+    ghost report: { Self → StdioReport } = { λ _. no_stdio_report };
 
     /// Reads the next bytes into the start of the buffer, which is not empty, and returns their
     /// number; 0 at the end of the input.
     fn read(&mut self, buf: &mut [u8]) -> Result<usize>
-        ensures { Reads (report self.old) (report self.new) result buf.new };
+        ensures { ReadsInput (report self.old) (report self.new) result buf.new };
 
     /// Writes a prefix of the bytes, and returns its length.
     fn write(&mut self, bytes: &[u8]) -> Result<usize>
-        ensures { Writes (report self.old) (report self.new) result bytes.now };
+        ensures { WritesOutput (report self.old) (report self.new) result bytes.now };
 
     /// Sends on all bytes written.
     fn flush(&mut self) -> Result<()>
@@ -53,7 +53,7 @@ impl<R, W> Duplex<R, W> {
     pub fn new(input: R, output: W) -> Duplex<R, W>
         ensures input { result.input ≡ input }
         ensures output { result.output ≡ output }
-        ensures calls { calls_of result.calls.items ≡ [] }
+        ensures calls { calls_noted result.calls.items ≡ [] }
     {
         Duplex {
             input,
@@ -65,7 +65,7 @@ impl<R, W> Duplex<R, W> {
 
 /// Notes a call of this kind, which moved these bytes.
 fn note(log: &mut Log<CallKind, Bytes>, kind: CallKind, bytes: &[u8])
-    ensures { calls_of log.new.items ≡ calls_of log.old.items ++ call_by kind bytes.now ∷ [] }
+    ensures { calls_noted log.new.items ≡ calls_noted log.old.items ++ call_by kind bytes.now ∷ [] }
 {
     let mut moved = Bytes::new();
     moved.note(bytes);
@@ -74,12 +74,12 @@ fn note(log: &mut Log<CallKind, Bytes>, kind: CallKind, bytes: &[u8])
 
 impl<R: Read, W: Write> FrontEnd for Duplex<R, W> {
     ghost use Rattle.std.specs.Prelude.{Some};
-    ghost use Rattle.usi_stdio.specs.Noted.{calls_of};
+    ghost use Rattle.usi_stdio.specs.Noted.{calls_noted};
 
     ghost report = { λ ends. record {
       unread = R.remaining ends.input;
       written = W.contents ends.output;
-      calls = Some (calls_of ends.calls.items);
+      calls = Some (calls_noted ends.calls.items);
     } };
 
     fn read(&mut self, buf: &mut [u8]) -> Result<usize> {

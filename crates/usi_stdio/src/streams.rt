@@ -2,9 +2,9 @@
 
 ghost use Rattle.std.specs.Prelude.{◌≡◌, ◌<◌, ◌≤◌, [], true, false, length, IfErr, OnOk, OnErr, Err};
 ghost use Rattle.usi_stdio.specs.Dialogue.{Talks};
-ghost use Rattle.usi_stdio.specs.Remembered.{TellsFed, TellsMemory, TellsTable};
-ghost use Rattle.usi_stdio.specs.Saying.{Answered, CutShort, CutShortDue, Says, Worked, Wrote, WrotePrefix, slices_of};
-ghost use Rattle.usi_stdio.specs.Stdio.{IsLeft, IsServed};
+ghost use Rattle.usi_stdio.specs.Remembered.{TellsFed, TellsMemory, TellsNewTable};
+ghost use Rattle.usi_stdio.specs.Saying.{Answered, CutShort, CutShortDue, SaysFlushed, Worked, Wrote, WrotePrefix, slices_of};
+ghost use Rattle.usi_stdio.specs.Stdio.{IsFrontEndLeft, IsFrontEndServed};
 ghost use Rattle.usi_stdio.specs.declared.streams.StdioFault.TheVariants.{OutOfMemory, WriteFailed};
 ghost use Rattle.usi_lines.specs.OneLine.{IsOneLine};
 ghost use Rattle.usi_texts.specs.Setup.{default_setup};
@@ -64,7 +64,7 @@ impl From<TableFault> for StdioFault {
 /// prefix of the bytes was then written.
 pub fn write_out<T: FrontEnd>(front_end: &mut T, bytes: &[u8]) -> Result<(), StdioFault>
     ensures ok { OnOk result
-        (Says (T.report front_end.old) (T.report front_end.new) bytes.now) }
+        (SaysFlushed (T.report front_end.old) (T.report front_end.new) bytes.now) }
     ensures err { IfErr result (WrotePrefix T.report front_end.old front_end.new bytes.now) }
     ensures fault { OnErr result (result ≡ Err WriteFailed) }
 {
@@ -197,13 +197,13 @@ pub fn stdio<A: Allocator + Copy, T: FrontEnd>(
     requires least { 1 ≤ entries }
     requires most { entries ≤ CAPACITY_MAX }
     ensures ok { OnOk result
-        (IsServed default_setup (T.report front_end.old) (T.report front_end.new)) }
+        (IsFrontEndServed default_setup (T.report front_end.old) (T.report front_end.new)) }
     ensures err { OnErr result
-        (IsLeft default_setup (T.report front_end.old) (T.report front_end.new)) }
+        (IsFrontEndLeft default_setup (T.report front_end.old) (T.report front_end.new)) }
     ensures calls { Talks default_setup
         (T.report front_end.old).calls (T.report front_end.new).calls result }
     ensures table { OnOk result
-        (TellsTable default_setup entries (T.report front_end.old) (T.report front_end.new)) }
+        (TellsNewTable default_setup entries (T.report front_end.old) (T.report front_end.new)) }
 {
     stdio_with_setup(alloc, Setup::new(), front_end, entries)
 }
@@ -226,12 +226,13 @@ pub fn stdio_with_setup<A: Allocator + Copy, T: FrontEnd>(
     requires least { 1 ≤ entries }
     requires most { entries ≤ CAPACITY_MAX }
     ensures ok { OnOk result
-        (IsServed setup (T.report front_end.old) (T.report front_end.new)) }
-    ensures err { OnErr result (IsLeft setup (T.report front_end.old) (T.report front_end.new)) }
+        (IsFrontEndServed setup (T.report front_end.old) (T.report front_end.new)) }
+    ensures err { OnErr result
+        (IsFrontEndLeft setup (T.report front_end.old) (T.report front_end.new)) }
     ensures calls { Talks setup
         (T.report front_end.old).calls (T.report front_end.new).calls result }
     ensures table { OnOk result
-        (TellsTable setup entries (T.report front_end.old) (T.report front_end.new)) }
+        (TellsNewTable setup entries (T.report front_end.old) (T.report front_end.new)) }
 {
     let hasher = BuildHasherDefault::<FoldHasher>::new();
     let mut table = SharedTable::new(alloc, entries, hasher)?;
@@ -247,8 +248,9 @@ pub fn stdio_on<A: Allocator + Copy, M: Memo, T: FrontEnd>(
     memo: &mut M,
 ) -> Result<(), StdioFault>
     ensures ok { OnOk result
-        (IsServed setup (T.report front_end.old) (T.report front_end.new)) }
-    ensures err { OnErr result (IsLeft setup (T.report front_end.old) (T.report front_end.new)) }
+        (IsFrontEndServed setup (T.report front_end.old) (T.report front_end.new)) }
+    ensures err { OnErr result
+        (IsFrontEndLeft setup (T.report front_end.old) (T.report front_end.new)) }
     ensures calls { Talks setup
         (T.report front_end.old).calls (T.report front_end.new).calls result }
     ensures told { OnOk result (TellsMemory M.called setup
