@@ -10,9 +10,9 @@ use Rattle.host_core.specs.Steps.{HostState}
 use Rattle.session_slots.specs.Slots.{OpenSessions, count}
 use Rattle.usi_session.specs.Due.{SessionView}
 use Rattle.usi_replay.specs.Script.{Opening, section, output, or_else, openings_after_line, read_from, read_script, meaning}
-use Rattle.usi_replay.specs.Playback.{Transcript, play, no_transcript, no_opening, open_id, transcript_section, HasAllReplies, HasMade, IsTranscriptOf, AreTranscripts, IsPlayback, KeepsPlayback, IsReadTo, IsWhole, LeadsTo, Plays}
+use Rattle.usi_replay.specs.Playback.{Transcript, play, no_transcript, no_opening, open_id, transcript_section, HasAllReplies, HasMade, IsTranscriptOf, AreTranscripts, IsPlayback, KeepsPlayback, IsReadTo, IsPlaybackOutput, LeadsTo, Plays}
 use Rattle.usi_replay.specs.Replayed.{IsOutputOn}
-use Rattle.usi_replay.specs.Sessions.{IsUnused, RunsBy}
+use Rattle.usi_replay.specs.Sessions.{HasOpenedNone, RunsBy}
 use Rattle.usi_replay.proofs.Transcripts.{transcripts_get, transcripts_len}
 use Rattle.usi_lines.specs.declared.line.TheConstants.{LINE_FEED}
 
@@ -55,7 +55,7 @@ pub writes_kept : (old now : HostState) (es fs : List Transcript) (i : ℕ) (out
 writes_kept old now es fs i out w = λ setup slots os p. (w setup slots os p).0
 
 -- a script before its first line
-pub read_start : (bytes : List ℕ) (h : HostState) → IsUnused h → IsReadTo h.setup h.slots.max h [] bytes 0 bytes
+pub read_start : (bytes : List ℕ) (h : HostState) → HasOpenedNone h → IsReadTo h.setup h.slots.max h [] bytes 0 bytes
 unfolding AreTranscripts
 read_start bytes h e =
     let next : h.slots.next ≡ 0 = ap (λ (s : OpenSessions SessionView). s.next) e in
@@ -90,7 +90,7 @@ pub read_fails : {setup : Setup} (slots : ℕ) (h new : HostState) (es fs : List
 read_fails {setup} slots h new es fs bytes number rest left line r e d =
     r.comes ∙ (ap (λ (ls : List Line). read_from slots (number + 1) ls r.openings) e ∙ read_bad slots (number + 1) line (lines left) r.openings (d setup slots r.openings r.play))
 
-pub read_whole : (slice : ℕ) (before h now : HostState) (es fs : List Transcript) (bytes : List ℕ) (number : ℕ) (rest out : List ℕ) → IsReadTo before.setup before.slots.max h es bytes number rest → lines rest ≡ [] → IsWhole (play h es) out → KeepsPlayback (play h es) (play now fs) → RunsBy slice before now → IsOutputOn slice before bytes now out
+pub read_whole : (slice : ℕ) (before h now : HostState) (es fs : List Transcript) (bytes : List ℕ) (number : ℕ) (rest out : List ℕ) → IsReadTo before.setup before.slots.max h es bytes number rest → lines rest ≡ [] → IsPlaybackOutput (play h es) out → KeepsPlayback (play h es) (play now fs) → RunsBy slice before now → IsOutputOn slice before bytes now out
 read_whole slice before h now es fs bytes number rest out r e whole kept run = record {
   openings = r.openings;
   comes = r.comes ∙ (ap (λ (ls : List Line). read_from before.slots.max (number + 1) ls r.openings) e ∙ read_end before.slots.max (number + 1) r.openings);

@@ -21,7 +21,7 @@ use Rattle.host_core.specs.Rounds.{pending_ids, works, was_refused, IsRound}
 use Rattle.host_core.proofs.Ids.{same_id, other_id}
 use Rattle.host_core.proofs.Rounds.{is_in, pending_in}
 use Rattle.usi_replay.specs.Playback.{IsSameButForMade, Transcript}
-use Rattle.usi_replay.specs.Sessions.{IsCollected, OwesTheSame, KeepsDue, KeepsAllBut, works_left}
+use Rattle.usi_replay.specs.Sessions.{IsCollected, OwesTheSame, KeepsRepliesDue, KeepsAllBut, works_left}
 
 -- a write to a session keeps the number of open sessions
 pub count-with_session : (s : slots.OpenSessions SessionView) (id : SessionId) (t after : SessionView) → find s id ≡ Some t → count (with_session s id after) ≡ count s
@@ -67,7 +67,7 @@ due_chain None (Some b) h p q = absurd p
 due_chain (Some a) None h p q = absurd p
 due_chain (Some a) (Some b) None p q = absurd q
 
-pub keeps_start : (h new : HostState) → new ≡ h → KeepsDue h new
+pub keeps_start : (h new : HostState) → new ≡ h → KeepsRepliesDue h new
 keeps_start h new e = record {
   owed = λ id. same_due (find h.slots id) (find new.slots id) (ap (λ (x : HostState). find x.slots id) e);
   count_is = ap (λ (x : HostState). count x.slots) e;
@@ -76,7 +76,7 @@ keeps_start h new e = record {
   setup_is = ap (λ (x : HostState). x.setup) e;
 }
 
-pub keeps_chain : (old mid new : HostState) → KeepsDue old mid → KeepsDue mid new → KeepsDue old new
+pub keeps_chain : (old mid new : HostState) → KeepsRepliesDue old mid → KeepsRepliesDue mid new → KeepsRepliesDue old new
 keeps_chain old mid new a b = record {
   owed = λ id. due_chain (find old.slots id) (find mid.slots id) (find new.slots id) (a.owed id) (b.owed id);
   count_is = b.count_is ∙ a.count_is;
@@ -101,13 +101,13 @@ works_at true budget old new at id s o e f c =
     rw (ap (find old.slots) (sym (same_id at id e)) ∙ f, ap (find new.slots) (sym (same_id at id e)) ∙ changed_finds (Works budget) old new at s o f c) same
 works_at false budget old new at id s o e f c = same_due (find old.slots id) (find new.slots id) ((changes_keep (Works budget) old new at s o f c).others id (other_id at id e))
 
-work_keeps : (budget : ℕ) (old new : HostState) (at : SessionId) (o : Outcome) (found : Option SessionView) → find old.slots at ≡ found → OnSession (Works budget) old at found o new → KeepsDue old new
+work_keeps : (budget : ℕ) (old new : HostState) (at : SessionId) (o : Outcome) (found : Option SessionView) → find old.slots at ≡ found → OnSession (Works budget) old at found o new → KeepsRepliesDue old new
 work_keeps budget old new at o None e u = keeps_start old new u.same
 work_keeps budget old new at o (Some s) e c =
     let k : KeepsAllBut old new at = changes_keep (Works budget) old new at s o e c in
     record { owed = λ id. works_at (is_same_id at id) budget old new at id s o refl e c; count_is = k.count_is; max_is = k.max_is; next_is = k.next_is; setup_is = k.setup_is }
 
-run_keeps : (budget : ℕ) (ids : List SessionId) (os : List Outcome) (old new : HostState) → IsRun old (works budget ids os) new → KeepsDue old new
+run_keeps : (budget : ℕ) (ids : List SessionId) (os : List Outcome) (old new : HostState) → IsRun old (works budget ids os) new → KeepsRepliesDue old new
 unfolding IsRun
 run_keeps budget [] os old new r = keeps_start old new r
 run_keeps budget (id ∷ ids) [] old new r = keeps_start old new r
@@ -115,7 +115,7 @@ run_keeps budget (id ∷ ids) (o ∷ os) old new r =
     keeps_chain old r.0 new (work_keeps budget old r.0 id o (find old.slots id) refl r.1.stepped.0) (run_keeps budget ids os r.0 new r.2)
 
 -- a round only makes sessions continue
-pub round_keeps : (old new : HostState) (budget worked refused : ℕ) (ids : List SessionId) → IsRound old budget ids worked refused new → KeepsDue old new
+pub round_keeps : (old new : HostState) (budget worked refused : ℕ) (ids : List SessionId) → IsRound old budget ids worked refused new → KeepsRepliesDue old new
 round_keeps old new budget worked refused ids r = run_keeps budget ids r.outcomes old new r.run
 
 -- a work that succeeds leaves fewer slices to do

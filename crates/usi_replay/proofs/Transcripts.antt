@@ -12,7 +12,7 @@ use Rattle.usi_session.proofs.Settled.{due-settled}
 use Rattle.host_core.specs.Steps.{HostState}
 use Rattle.host_core.specs.ById.{pending_of}
 use Rattle.usi_replay.specs.Script.{Opening, has_session}
-use Rattle.usi_replay.specs.Sessions.{OwesTheSame, KeepsDue, KeepsAllBut, IsCollected, IsFed}
+use Rattle.usi_replay.specs.Sessions.{OwesTheSame, KeepsRepliesDue, KeepsAllBut, IsCollected, OwesRepliesTo}
 use Rattle.usi_replay.specs.Playback.{Transcript, play, no_transcript, no_opening, open_id, Owes, HasMade, IsTranscriptOf, floor_after, IsAbove, AreTranscripts, IsPlayback, KeepsPlayback, HasAllReplies, with_more, IsSent}
 use Rattle.usi_lines.specs.declared.line.TheConstants.{LINE_FEED}
 
@@ -22,15 +22,15 @@ owes_due setup None g made text h o = absurd o
 owes_due setup (Some s) None made text h o = absurd h
 owes_due setup (Some s) (Some t) made text h o = λ x. ap (λ xs. made ++ xs) (h x) ∙ o x
 
-made_due : (setup : Setup) (old new : HostState) (id : Option SessionId) (used refused : Bool) (text made : List ℕ) → KeepsDue old new → HasMade setup old id used refused text made → HasMade setup new id used refused text made
+made_due : (setup : Setup) (old new : HostState) (id : Option SessionId) (used refused : Bool) (text made : List ℕ) → KeepsRepliesDue old new → HasMade setup old id used refused text made → HasMade setup new id used refused text made
 made_due setup old new None used refused text made k m = m
 made_due setup old new (Some id) true refused text made k m = (m.0, owes_due setup (find old.slots id) (find new.slots id) made text (k.owed id) m.1)
 made_due setup old new (Some id) false refused text made k m = m
 
-of_due : {setup : Setup} (old new : HostState) (o : Opening) (e : Transcript) → KeepsDue old new → IsTranscriptOf setup old o e → IsTranscriptOf setup new o e
+of_due : {setup : Setup} (old new : HostState) (o : Opening) (e : Transcript) → KeepsRepliesDue old new → IsTranscriptOf setup old o e → IsTranscriptOf setup new o e
 of_due {setup} old new o e k i = record { name_is = i.name_is; used_is = i.used_is; made_is = made_due setup old new e.id e.in_use o.refused o.text e.made k i.made_is }
 
-pub transcripts_due : (setup : Setup) (old new : HostState) (low : ℕ) (os : List Opening) (es : List Transcript) → KeepsDue old new → AreTranscripts setup old low os es → AreTranscripts setup new low os es
+pub transcripts_due : (setup : Setup) (old new : HostState) (low : ℕ) (os : List Opening) (es : List Transcript) → KeepsRepliesDue old new → AreTranscripts setup old low os es → AreTranscripts setup new low os es
 unfolding AreTranscripts
 transcripts_due setup old new low [] [] k t = (let n : new.slots.next ≡ old.slots.next = k.next_is in rw n t)
 transcripts_due setup old new low [] (e ∷ es) k t = absurd t
@@ -208,7 +208,7 @@ of_live setup h o e id l n u r w = record { name_is = n; used_is = u; made_is = 
 
 -- a session was worked off, and its queued bytes were kept
 pub record IsTaken (old mid new : HostState) (id : SessionId) (before after : Transcript) : Type 0 where
-  pub due : KeepsDue old mid
+  pub due : KeepsRepliesDue old mid
   pub settled : pending_of (find mid.slots id) ≡ false
   pub others : KeepsAllBut mid new id
   pub handed : IsCollected (find mid.slots id) (find new.slots id) before.made after.made
@@ -252,19 +252,19 @@ any_default (x ∷ xs) (suc i) d e lt = any_default xs i d e (omega arith)
 pub item_is : (es : List Transcript) (i : ℕ) (x : Transcript) → i < length es → x ≡ get_or es i x → get_or es i no_transcript ≡ x
 item_is es i x lt e = any_default es i no_transcript x lt ∙ sym e
 
-pub taken_at : (old mid new : HostState) (id : SessionId) (es : List Transcript) (i : ℕ) (x y after : Transcript) → i < length es → x ≡ get_or es i x → y ≡ get_or es i y → open_id x ≡ Some id → KeepsDue old mid → pending_of (find mid.slots id) ≡ false → KeepsAllBut mid new id → IsCollected (find mid.slots id) (find new.slots id) y.made after.made → after ≡ record y { made = after.made } → IsTaken old mid new id (get_or es i no_transcript) after
+pub taken_at : (old mid new : HostState) (id : SessionId) (es : List Transcript) (i : ℕ) (x y after : Transcript) → i < length es → x ≡ get_or es i x → y ≡ get_or es i y → open_id x ≡ Some id → KeepsRepliesDue old mid → pending_of (find mid.slots id) ≡ false → KeepsAllBut mid new id → IsCollected (find mid.slots id) (find new.slots id) y.made after.made → after ≡ record y { made = after.made } → IsTaken old mid new id (get_or es i no_transcript) after
 taken_at old mid new id es i x y after lt e f l due settled others handed rest =
     let a : get_or es i no_transcript ≡ x = item_is es i x lt e in
     let b : get_or es i no_transcript ≡ y = item_is es i y lt f in
     record { due = due; settled = settled; others = others; handed = rw b handed; rest = rw b rest; open_id_is = rw a l }
 
 -- a chunk was fed to a `+` line
-fed_by : (setup : Setup) (f g : Option SessionView) (made text chunk : List ℕ) → IsFed f g chunk → Owes setup f made text → Owes setup g made (text ++ chunk)
+fed_by : (setup : Setup) (f g : Option SessionView) (made text chunk : List ℕ) → OwesRepliesTo f g chunk → Owes setup f made text → Owes setup g made (text ++ chunk)
 fed_by setup None g made text chunk h o = absurd o
 fed_by setup (Some s) None made text chunk h o = absurd h
 fed_by setup (Some s) (Some t) made text chunk h o = λ x. ap (λ xs. made ++ xs) (h x) ∙ (o (chunk ++ x) ∙ ap (replies_under setup) (sym (append_assoc text chunk x)))
 
-pub fed_live : (old new : HostState) (id : SessionId) (es : List Transcript) (i : ℕ) (x : Transcript) (chunk : List ℕ) → i < length es → x ≡ get_or es i x → open_id x ≡ Some id → KeepsAllBut old new id → IsFed (find old.slots id) (find new.slots id) chunk → IsSent (play old es) (play new es) i chunk
+pub fed_live : (old new : HostState) (id : SessionId) (es : List Transcript) (i : ℕ) (x : Transcript) (chunk : List ℕ) → i < length es → x ≡ get_or es i x → open_id x ≡ Some id → KeepsAllBut old new id → OwesRepliesTo (find old.slots id) (find new.slots id) chunk → IsSent (play old es) (play new es) i chunk
 fed_live old new id es i x chunk lt e l others fed setup slots os p =
     let a : get_or es i no_transcript ≡ x = item_is es i x lt e in
     let li : HasOpenId (get_or es i no_transcript) id = has_open_id (get_or es i no_transcript) id (ap open_id a ∙ l) in
@@ -360,7 +360,7 @@ fed_whole old mid new end es fs gs hs i text rest lt f none b last =
     let same : text ≡ f.done = f.split ∙ (ap (λ xs. f.done ++ xs) none ∙ append-nil f.done) in
     fed_played old new end es gs hs i (text ++ LINE_FEED ∷ []) (fed_more old mid new es fs gs i f.done (LINE_FEED ∷ []) (text ++ LINE_FEED ∷ []) lt (rw same refl) f.fed b) last
 
-pub rounds_played : (old new : HostState) (es : List Transcript) → KeepsDue old new → KeepsPlayback (play old es) (play new es)
+pub rounds_played : (old new : HostState) (es : List Transcript) → KeepsRepliesDue old new → KeepsPlayback (play old es) (play new es)
 rounds_played old new es k setup slots os p = record {
   transcripts = transcripts_due setup old new 0 os es k p.transcripts;
   count_is = k.count_is ∙ p.count_is;

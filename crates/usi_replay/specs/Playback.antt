@@ -8,7 +8,7 @@ use Rattle.usi_texts.specs.declared.setup.Setup.{Setup}
 use Rattle.usi_session.specs.WholeStream.{replies_under}
 use Rattle.usi_lines.specs.Lines.{Line, lines}
 use Rattle.host_core.specs.Steps.{HostState}
-use Rattle.usi_replay.specs.Script.{ScriptLine, Opening, meaning, has_session, closed_opening, new_opening, ended, openings_after, read_from, read_script, output}
+use Rattle.usi_replay.specs.Script.{ScriptLine, Opening, meaning, has_session, closed_opening, new_opening, with_line_feed, openings_after, read_from, read_script, output}
 use Rattle.usi_lines.specs.declared.line.TheConstants.{LINE_FEED}
 
 -- the transcript of a `+` line: its name, whether that is in use, the id of its session unless refused, and the session's output so far
@@ -42,8 +42,8 @@ abbrev pub is_transcript_under : ℕ → Transcript → Bool
 is_transcript_under name t = t.in_use && t.name == name
 
 -- the index of the first transcript with the name in use, or the number of transcripts
-abbrev pub place_of : ℕ → List Transcript → ℕ
-place_of name ts = position_or_len (is_transcript_under name) ts
+abbrev pub transcript_index : ℕ → List Transcript → ℕ
+transcript_index name ts = position_or_len (is_transcript_under name) ts
 
 -- the session's id while the name is in use
 abbrev pub open_id : Transcript → Option SessionId
@@ -125,7 +125,7 @@ IsSent old new i chunk =
 
 -- a text and its LF were sent to the `+` line at this index
 abbrev pub IsFedLine : Play → Play → ℕ → List ℕ → Type 0
-IsFedLine old new i text = IsSent old new i (ended text)
+IsFedLine old new i text = IsSent old new i (with_line_feed text)
 
 -- the transcript has all replies of the session under a setup
 abbrev pub HasAllReplies : Setup → Opening → Transcript → Type 0
@@ -155,8 +155,8 @@ IsOpenedUnder old new name =
     → IsPlayback setup slots new.host (os ++ new_opening slots name os ∷ []) new.transcripts
 
 -- the bytes are the output of the `+` lines
-abbrev pub IsWhole : Play → List ℕ → Type 0
-IsWhole p out =
+abbrev pub IsPlaybackOutput : Play → List ℕ → Type 0
+IsPlaybackOutput p out =
     (setup : Setup) (slots : ℕ) (os : List Opening)
     → IsPlayback setup slots p.host os p.transcripts → out ≡ output setup os
 

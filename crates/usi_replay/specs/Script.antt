@@ -22,17 +22,17 @@ abbrev pub is_signed_name : ℕ → ℕ → ℕ → List ℕ → Bool
 is_signed_name sign first second rest = first == sign && (is_name second && length rest == 0)
 
 -- `+A`, `-A`, or `A`, a space and a text: `+` is 43, `-` is 45, a space is 32
-abbrev pub meaning_of : List ℕ → ScriptLine
-meaning_of [] = Empty
-meaning_of (first ∷ []) = Bad
-meaning_of (first ∷ second ∷ rest) =
+abbrev pub script_line_meaning : List ℕ → ScriptLine
+script_line_meaning [] = Empty
+script_line_meaning (first ∷ []) = Bad
+script_line_meaning (first ∷ second ∷ rest) =
     cond (is_signed_name 43 first second rest) (Open second)
     (cond (is_signed_name 45 first second rest) (Close second)
     (cond (is_name first && second == 32) (Send first rest) Bad))
 
 -- the meaning of a line; one that is too long is bad
 abbrev pub meaning : Line → ScriptLine
-meaning (Text text) = meaning_of text
+meaning (Text text) = script_line_meaning text
 meaning TooLong = Bad
 
 -- a `+` line: its name, whether the name is in use for it, whether it was refused a session, and the texts sent to it, each with its LF
@@ -80,12 +80,12 @@ abbrev pub closed_opening : Opening → Opening
 closed_opening o = record o { in_use = false }
 
 -- a text with its LF
-abbrev pub ended : List ℕ → List ℕ
-ended text = text ++ LINE_FEED ∷ []
+abbrev pub with_line_feed : List ℕ → List ℕ
+with_line_feed text = text ++ LINE_FEED ∷ []
 
 -- a `+` line that is sent a text and an LF
 abbrev pub sent_opening : List ℕ → Opening → Opening
-sent_opening text o = record o { text = o.text ++ ended text }
+sent_opening text o = record o { text = o.text ++ with_line_feed text }
 
 -- the `+` lines after another line; none if that is bad, as with a `+` of a name in use, or a text or `-` of a name not in use
 abbrev pub openings_after : ℕ → ScriptLine → List Opening → Option (List Opening)
@@ -116,12 +116,12 @@ abbrev pub read_script : ℕ → List ℕ → Result (List Opening) ℕ
 read_script slots bytes = read_from slots 1 (lines bytes) []
 
 -- the bytes under a `+` line: the replies to its texts under a setup, or that it was refused
-abbrev pub answer_of : Setup → Opening → List ℕ
-answer_of setup o = cond o.refused (codes "refused 1\n") (replies_under setup o.text)
+abbrev pub opening_answer : Setup → Opening → List ℕ
+opening_answer setup o = cond o.refused (codes "refused 1\n") (replies_under setup o.text)
 
 -- the bytes written for a `+` line
 abbrev pub section : Setup → Opening → List ℕ
-section setup o = codes "== " ++ (o.name ∷ LINE_FEED ∷ answer_of setup o)
+section setup o = codes "== " ++ (o.name ∷ LINE_FEED ∷ opening_answer setup o)
 
 -- the output of the `+` lines in script order
 abbrev pub output : Setup → List Opening → List ℕ

@@ -20,7 +20,7 @@ OwesTheSame (Some s) (Some t) = (x : List ℕ) → due t x ≡ due s x
 OwesTheSame _ _ = ⊥
 
 -- sessions may have gone on, with the same replies due
-pub record KeepsDue (old new : HostState) : Type 0 where
+pub record KeepsRepliesDue (old new : HostState) : Type 0 where
   pub owed : (id : SessionId) → OwesTheSame (find old.slots id) (find new.slots id)
   pub count_is : count new.slots ≡ count old.slots
   pub max_is : new.slots.max ≡ old.slots.max
@@ -54,15 +54,15 @@ IsCollected (Some s) (Some t) made more =
     (more ≡ made ++ s.queued) × ((x : List ℕ) → due s x ≡ s.queued ++ due t x)
 
 -- the queued bytes of the session moved to its transcript
-abbrev pub HandsOver : HostState → HostState → SessionId → Transcript → Transcript → Type 0
-HandsOver old new id before after =
+abbrev pub MovesToTranscript : HostState → HostState → SessionId → Transcript → Transcript → Type 0
+MovesToTranscript old new id before after =
     IsCollected (find old.slots id) (find new.slots id) before.made after.made
 
 -- feeding the bytes leaves due the replies to them and to any that follow
-abbrev pub IsFed : Option SessionView → Option SessionView → List ℕ → Type 0
-IsFed None now chunk = Unit {0}
-IsFed (Some s) None chunk = ⊥
-IsFed (Some s) (Some t) chunk = (x : List ℕ) → due t x ≡ due s (chunk ++ x)
+abbrev pub OwesRepliesTo : Option SessionView → Option SessionView → List ℕ → Type 0
+OwesRepliesTo None now chunk = Unit {0}
+OwesRepliesTo (Some s) None chunk = ⊥
+OwesRepliesTo (Some s) (Some t) chunk = (x : List ℕ) → due t x ≡ due s (chunk ++ x)
 
 -- a session was opened, or there was no room
 abbrev pub IsOpenedAs : HostState → Option SessionId → HostState → Type 0
@@ -75,8 +75,8 @@ IsClosedAs old (Some id) new = (outcome : Outcome) × IsClosed old id (find old.
 IsClosedAs old None new = new ≡ old
 
 -- no session was opened yet
-abbrev pub IsUnused : HostState → Type 0
-IsUnused host = host.slots ≡ record { max = host.slots.max; next = 0; slots = [] }
+abbrev pub HasOpenedNone : HostState → Type 0
+HasOpenedNone host = host.slots ≡ record { max = host.slots.max; next = 0; slots = [] }
 
 -- the event, if it is a work, has a budget of `slice` steps
 abbrev pub WorksBy : ℕ → Event → Type 0

@@ -5,7 +5,7 @@ ghost use Rattle.usi_lines.specs.Seen.{line_of};
 ghost use Rattle.usi_replay.specs.Seen.{play_of};
 ghost use Rattle.usi_replay.specs.Script.{Open, Close, Send};
 ghost use Rattle.usi_replay.specs.Sessions.{RunsBy};
-ghost use Rattle.usi_replay.specs.Playback.{KeepsPlayback, KeepsUse, CollectsAll, IsFedLine, IsSent, IsClosedAt, IsOpenedUnder, IsWhole, Plays, PlaysLine, is_used_at, place_of, transcript_section};
+ghost use Rattle.usi_replay.specs.Playback.{KeepsPlayback, KeepsUse, CollectsAll, IsFedLine, IsSent, IsClosedAt, IsOpenedUnder, IsPlaybackOutput, Plays, PlaysLine, is_used_at, transcript_index, transcript_section};
 
 use crate::script_line::{ScriptLine, meaning};
 use crate::sessions;
@@ -41,7 +41,7 @@ pub struct Playback<S: BuildHasher, A: Allocator + Copy> {
 impl<S: BuildHasher, A: Allocator + Copy> Playback<S, A> {
     /// The index of the transcript with the name in use, or the number of transcripts.
     fn place_of(&self, name: u8) -> usize
-        ensures value { result ≡ place_of name self.now.transcripts.items }
+        ensures value { result ≡ transcript_index name self.now.transcripts.items }
         ensures within { result ≤ length self.now.transcripts.items }
     {
         for i in 0..self.transcripts.len() {
@@ -207,7 +207,7 @@ impl<S: BuildHasher, A: Allocator + Copy> Playback<S, A> {
     /// Makes rounds until nothing is pending, and returns the output of the whole script.
     pub fn finish(&mut self) -> Result<Vec<u8, A>, AllocError>
         requires { 1 ≤ self.old.slice }
-        ensures whole { IfOk result (λ out. IsWhole (play_of self.old) out.items) }
+        ensures whole { IfOk result (λ out. IsPlaybackOutput (play_of self.old) out.items) }
         ensures kept { OnOk result (KeepsPlayback (play_of self.old) (play_of self.new)) }
         ensures run { OnOk result (RunsBy self.old.slice self.old.host self.new.host) }
     {

@@ -2,7 +2,7 @@
 
 ghost use Rattle.std.specs.Prelude.{◌≡◌};
 ghost use Rattle.usi_lines.specs.Seen.{line_of};
-ghost use Rattle.usi_replay.specs.Script.{meaning, meaning_of, is_name};
+ghost use Rattle.usi_replay.specs.Script.{meaning, script_line_meaning, is_name};
 ghost use Rattle.usi_replay.specs.Seen.{script_line_of};
 
 use usi_lines::Line;
@@ -31,7 +31,7 @@ fn is_name(byte: u8) -> bool
 
 /// The meaning of a line's bytes.
 fn text_meaning(text: &[u8]) -> ScriptLine<'_>
-    ensures { script_line_of result ≡ meaning_of text.now }
+    ensures { script_line_of result ≡ script_line_meaning text.now }
 {
     match text {
         [] => ScriptLine::Empty,

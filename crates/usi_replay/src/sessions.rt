@@ -4,7 +4,7 @@ ghost use Rattle.std.specs.Prelude.{◌≡◌, ◌≤◌, ℕ, false, IfOk, OnOk
 ghost use Rattle.session_slots.specs.Slots.{find};
 ghost use Rattle.host_core.specs.ById.{pending_of};
 ghost use Rattle.usi_replay.specs.Playback.{IsSameButForMade};
-ghost use Rattle.usi_replay.specs.Sessions.{KeepsDue, KeepsAllBut, HandsOver, IsFed, IsOpenedAs, IsClosedAs, NeedFewerWorks, RunsBy};
+ghost use Rattle.usi_replay.specs.Sessions.{KeepsRepliesDue, KeepsAllBut, MovesToTranscript, OwesRepliesTo, IsOpenedAs, IsClosedAs, NeedFewerWorks, RunsBy};
 
 use crate::transcript::Transcript;
 use host_core::{Host, HostFault};
@@ -18,7 +18,7 @@ pub fn work_round<S: BuildHasher, A: Allocator + Copy>(
     slice: u64,
 ) -> Result<(), AllocError>
     requires { 1 ≤ slice }
-    ensures due { OnOk result (KeepsDue host.old host.new) }
+    ensures due { OnOk result (KeepsRepliesDue host.old host.new) }
     ensures fewer { OnOk result (NeedFewerWorks host.old host.new) }
     ensures run { RunsBy slice host.old host.new }
 {
@@ -35,7 +35,7 @@ pub fn settle<S: BuildHasher, A: Allocator + Copy>(
     slice: u64,
 ) -> Result<(), AllocError>
     requires { 1 ≤ slice }
-    ensures due { OnOk result (KeepsDue host.old host.new) }
+    ensures due { OnOk result (KeepsRepliesDue host.old host.new) }
     ensures settled { OnOk result (pending_of (find host.new.slots id) ≡ false) }
     ensures run { OnOk result (RunsBy slice host.old host.new) }
 {
@@ -54,7 +54,7 @@ pub fn take_output<S: BuildHasher, A: Allocator + Copy>(
 ) -> Result<(), AllocError>
     ensures others { OnOk result (KeepsAllBut host.old host.new id) }
     ensures collected { OnOk result
-        (HandsOver host.old host.new id transcript.old transcript.new) }
+        (MovesToTranscript host.old host.new id transcript.old transcript.new) }
     ensures rest { OnOk result (IsSameButForMade transcript.old transcript.new) }
     ensures run { OnOk result ((slice : ℕ) → RunsBy slice host.old host.new) }
 {
@@ -76,7 +76,8 @@ pub fn feed<S: BuildHasher, A: Allocator + Copy>(
     chunk: &[u8],
 ) -> Result<(), AllocError>
     ensures others { OnOk result (KeepsAllBut host.old host.new id) }
-    ensures fed { OnOk result (IsFed (find host.old.slots id) (find host.new.slots id) chunk.now) }
+    ensures fed { OnOk result
+        (OwesRepliesTo (find host.old.slots id) (find host.new.slots id) chunk.now) }
     ensures run { OnOk result ((slice : ℕ) → RunsBy slice host.old host.new) }
 {
     if host.is_over(id) {

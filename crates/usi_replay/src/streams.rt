@@ -3,7 +3,7 @@
 ghost use Rattle.std.specs.Prelude.{◌≤◌, [], OnOk, IfOk, IfErr};
 ghost use Rattle.usi_texts.specs.Setup.{default_setup};
 ghost use Rattle.usi_replay.specs.Replayed.{GivesAllIn, IsAnswerOn, Leaves, ReadsBy, Recites, Replays, ReplaysAsked, ReplaysOn, TakesAll};
-ghost use Rattle.usi_replay.specs.Sessions.{IsUnused};
+ghost use Rattle.usi_replay.specs.Sessions.{HasOpenedNone};
 ghost use Rattle.session_slots.specs.declared.limits.TheConstants.{SESSIONS_MAX};
 ghost use Rattle.shared_table.specs.declared.table.TheConstants.{CAPACITY_MAX};
 
@@ -50,7 +50,7 @@ fn output_of<S: BuildHasher + Drop, A: Allocator + Copy>(
     script: &[u8],
     slice: u64,
 ) -> Result<(Host<S, A>, Vec<u8, A>), ReplayFault>
-    requires unused { IsUnused host }
+    requires unused { HasOpenedNone host }
     requires least_slice { 1 ≤ slice }
     ensures { IsAnswerOn slice host script.now result }
 {
@@ -165,7 +165,7 @@ pub fn replay_on<S: BuildHasher + Drop, A: Allocator + Copy, T: FrontEnd>(
     front_end: &mut T,
     slice: u64,
 ) -> Result<Host<S, A>, ReplayFault>
-    requires unused { IsUnused host }
+    requires unused { HasOpenedNone host }
     requires least_slice { 1 ≤ slice }
     ensures ok { IfOk result
         (λ after. ReplaysOn slice host after (T.report front_end.old) (T.report front_end.new)) }
