@@ -2,11 +2,11 @@
 use Rattle.std.proofs.Common.{◌≡◌, ◌-◌, ◌^◌, List, None, codes}
 use Rattle.clap.specs.Words.{Row, first_of}
 use Rattle.usi_arguments.specs.Answers.{HasNoHost, NamesNoMate, NamesNoPerft, NamesNoReplay, NamesNoServe, NamesNoStdio}
-use Rattle.usi_arguments.specs.CommandLine.{HasNone}
+use Rattle.usi_arguments.specs.CommandLine.{HasNoNumber}
 use Rattle.usi_arguments.specs.Setup.{HasNoSetup}
 use Rattle.usi_arguments.specs.declared.arguments.Job.TheVariants.{Stdio, Replay, Serve, Perft, Moves, Mate, Help, Version}
 
-pub no_stdio : (options : List Row) → HasNone (codes "entries") 1000000 options → NamesNoStdio options
+pub no_stdio : (options : List Row) → HasNoNumber (codes "entries") 1000000 options → NamesNoStdio options
 no_stdio options none (Stdio entries setup) range is = none entries range.0 is.0
 no_stdio options none (Replay host) range is = is
 no_stdio options none (Serve socket status turns host) range is = is
@@ -46,7 +46,7 @@ no_socket options none (Mate sfen plies line keys) range is = is
 no_socket options none (Help text) range is = is
 no_socket options none Version range is = is
 
-pub no_turns : (options : List Row) → HasNone (codes "turns") (2 ^ 64 - 1) options → NamesNoServe options
+pub no_turns : (options : List Row) → HasNoNumber (codes "turns") (2 ^ 64 - 1) options → NamesNoServe options
 no_turns options none (Stdio entries setup) range is = is
 no_turns options none (Replay host) range is = is
 no_turns options none (Serve socket status turns host) range is = none turns range.0 is.2
@@ -66,7 +66,7 @@ no_served_host options none (Mate sfen plies line keys) range is = is
 no_served_host options none (Help text) range is = is
 no_served_host options none Version range is = is
 
-pub no_perft : (options : List Row) → HasNone (codes "depth") 16 options → NamesNoPerft options
+pub no_perft : (options : List Row) → HasNoNumber (codes "depth") 16 options → NamesNoPerft options
 no_perft options none (Stdio entries setup) range is = is
 no_perft options none (Replay host) range is = is
 no_perft options none (Serve socket status turns host) range is = is
@@ -76,7 +76,7 @@ no_perft options none (Mate sfen plies line keys) range is = is
 no_perft options none (Help text) range is = is
 no_perft options none Version range is = is
 
-pub no_mate : (options : List Row) → HasNone (codes "plies") 15 options → NamesNoMate options
+pub no_mate : (options : List Row) → HasNoNumber (codes "plies") 15 options → NamesNoMate options
 no_mate options none (Stdio entries setup) range is = is
 no_mate options none (Replay host) range is = is
 no_mate options none (Serve socket status turns host) range is = is

@@ -11,8 +11,8 @@ use Rattle.clap.specs.declared.error.kind.ErrorKind.{ErrorKind}
 use Rattle.clap.specs.declared.error.kind.ErrorKind.TheVariants as kinds
 use Rattle.clap.specs.declared.parser.matches.ArgMatches.{ArgMatches}
 use Rattle.clap.specs.declared.parser.matches.ValueSource.TheVariants.{DefaultValue}
-use Rattle.usi_arguments.specs.Answers.{AreHelpArguments, AreVersionArguments, Gives, GivesHelp, GivesReplay, GivesStdio, HasRanges, HasReach, IsTooDeepIn, IsUnfitIn, KnowsEvaluation, NamesNoEvaluation, IsAnswerToParsed, IsAskedBy, IsJobOf, IsRefusal, IsRefusedFor, IsReplayOf, IsStdioOf, HasMistake, IsHeld, IsMistake, IsNoJob, NamesHost, NamesJob, is_even, usual_host}
-use Rattle.usi_arguments.specs.CommandLine.{IsNumber, NamesNumber, command_line, command_of, faults_of}
+use Rattle.usi_arguments.specs.Answers.{AreHelpArguments, AreVersionArguments, GivesJob, GivesHelp, GivesReplay, GivesStdio, HasRanges, HasReach, IsTooDeepIn, IsUnfitIn, KnowsEvaluation, NamesNoEvaluation, IsAnswerToParsed, IsAskedBy, IsJobOf, IsRefusal, IsRefusedFor, IsReplayOf, IsStdioOf, HasMistake, IsHeld, IsMistake, IsNoJob, NamesHost, NamesJob, is_even, usual_host}
+use Rattle.usi_arguments.specs.CommandLine.{IsNumber, NamesNumber, command_line, named_command, faults_of}
 use Rattle.usi_arguments.specs.declared.arguments.Job.{Job}
 use Rattle.usi_arguments.specs.declared.arguments.Job.TheVariants.{Stdio, Replay, Serve, Perft, Moves, Mate, Help, Version}
 use Rattle.usi_arguments.specs.declared.arguments.ArgumentsFault.{ArgumentsFault}
@@ -36,7 +36,7 @@ pub bare_faults : faults_of [] ≡ []
 unfolding clap_on_literals
 bare_faults = refl
 
-pub bare_command : command_of [] ≡ None
+pub bare_command : named_command [] ≡ None
 unfolding clap_on_literals
 bare_command = refl
 
@@ -81,7 +81,7 @@ pub stdio_faults : faults_of (codes "stdio" ∷ []) ≡ []
 unfolding clap_on_literals
 stdio_faults = refl
 
-pub stdio_command_is : command_of (codes "stdio" ∷ []) ≡ Some (codes "stdio", stdio_rows)
+pub stdio_command_is : named_command (codes "stdio" ∷ []) ≡ Some (codes "stdio", stdio_rows)
 unfolding clap_on_literals
 stdio_command_is = refl
 
@@ -89,13 +89,13 @@ pub replay_faults : faults_of (codes "replay" ∷ []) ≡ []
 unfolding clap_on_literals
 replay_faults = refl
 
-pub replay_command_is : command_of (codes "replay" ∷ []) ≡ Some (codes "replay", replay_rows)
+pub replay_command_is : named_command (codes "replay" ∷ []) ≡ Some (codes "replay", replay_rows)
 unfolding clap_on_literals
 replay_command_is = refl
 
 -- the result of parsing the arguments
 pub record IsParsedLine (arguments : List Text) (parsed : Result ArgMatches Error) : Type 0 where
-  pub matches : IfOk parsed (λ m. subcommand_rows_of m ≡ command_of arguments)
+  pub matches : IfOk parsed (λ m. subcommand_rows_of m ≡ named_command arguments)
   pub kinds : FailsBy (faults_of arguments) parsed
 
 pub parsed_line : (app : App) (arguments : List Text) (parsed : Result ArgMatches Error) → app ≡ command_line
@@ -209,9 +209,9 @@ has_job command job said knows names range reach only (inr (inr is)) =
 -- arguments without a mistake that name a single job give it
 gives : (arguments : List Text) (job : Job) (r : Result Job ArgumentsFault)
     → faults_of arguments ≡ []
-    → KnowsEvaluation (command_of arguments)
-    → NamesJob (command_of arguments) job → HasRanges job → HasReach job → ((other : Job) → NamesJob (command_of arguments) other → other ≡ job)
-    → IfOk r (IsAskedBy arguments) → IfErr r (IsRefusedFor arguments) → Gives job r
+    → KnowsEvaluation (named_command arguments)
+    → NamesJob (named_command arguments) job → HasRanges job → HasReach job → ((other : Job) → NamesJob (named_command arguments) other → other ≡ job)
+    → IfOk r (IsAskedBy arguments) → IfErr r (IsRefusedFor arguments) → GivesJob job r
 gives arguments job (Ok (Stdio entries setup)) none knows names range reach only asked refused = inl (ap Ok (only (Stdio entries setup) asked.1))
 gives arguments job (Ok (Replay host)) none knows names range reach only asked refused = inl (ap Ok (only (Replay host) asked.1))
 gives arguments job (Ok (Serve socket status turns host)) none knows names range reach only asked refused =
@@ -224,13 +224,13 @@ gives arguments job (Ok Version) none knows names range reach only asked refused
 gives arguments job (Err OutOfMemory) none knows names range reach only asked refused = inr refl
 gives arguments job (Err (NotAccepted text)) none knows names range reach only asked refused = elim refused [
   | inl mistake ↦ absurd (subst (λ (k : Kinds). IsAmong mistake.0 k) none mistake.1)
-  | inr no_job ↦ absurd (has_job (command_of arguments) job (string_bytes text) knows names range reach only no_job.1)
+  | inr no_job ↦ absurd (has_job (named_command arguments) job (string_bytes text) knows names range reach only no_job.1)
 ]
 
 -- arguments of a known command that name a single job give it
 gives_of : (arguments : List Text) (job : Job) (command : Option (Text × List Row)) (r : Result Job ArgumentsFault) → faults_of arguments ≡ []
-    → command_of arguments ≡ command → KnowsEvaluation command → NamesJob command job → HasRanges job → HasReach job → ((other : Job) → NamesJob command other → other ≡ job)
-    → IfOk r (IsAskedBy arguments) → IfErr r (IsRefusedFor arguments) → Gives job r
+    → named_command arguments ≡ command → KnowsEvaluation command → NamesJob command job → HasRanges job → HasReach job → ((other : Job) → NamesJob command other → other ≡ job)
+    → IfOk r (IsAskedBy arguments) → IfErr r (IsRefusedFor arguments) → GivesJob job r
 gives_of arguments job command r none is knows names range reach only asked refused =
     gives arguments job r none (subst KnowsEvaluation (sym is) knows) (subst (λ (c : Option (Text × List Row)). NamesJob c job) (sym is) names) range reach
     (λ other has. only other (subst (λ (c : Option (Text × List Row)). NamesJob c other) is has)) asked refused
@@ -361,7 +361,7 @@ gives_help_of arguments (Err (NotAccepted text)) is asked refused = not_refused 
 
 -- arguments that ask for the version alone give it
 gives_version_of : (arguments : List Text) (r : Result Job ArgumentsFault) → faults_of arguments ≡ kinds.DisplayVersion ∷ []
-    → IfOk r (IsAskedBy arguments) → IfErr r (IsRefusedFor arguments) → Gives Version r
+    → IfOk r (IsAskedBy arguments) → IfErr r (IsRefusedFor arguments) → GivesJob Version r
 gives_version_of arguments (Ok Version) is asked refused = inl refl
 gives_version_of arguments (Ok (Stdio entries setup)) is asked refused = let bad : kinds.DisplayVersion ∷ [] ≡ [] = sym is ∙ asked.0 in cc
 gives_version_of arguments (Ok (Replay host)) is asked refused = let bad : kinds.DisplayVersion ∷ [] ≡ [] = sym is ∙ asked.0 in cc
@@ -382,6 +382,6 @@ gives_help arguments r (inr is) asked refused = gives_help_of arguments r (ap fa
 
 pub gives_version : (arguments : List Text) (r : Result Job ArgumentsFault)
     → AreVersionArguments arguments
-    → IfOk r (IsAskedBy arguments) → IfErr r (IsRefusedFor arguments) → Gives Version r
+    → IfOk r (IsAskedBy arguments) → IfErr r (IsRefusedFor arguments) → GivesJob Version r
 gives_version arguments r (inl is) asked refused = gives_version_of arguments r (ap faults_of is ∙ version_faults) asked refused
 gives_version arguments r (inr is) asked refused = gives_version_of arguments r (ap faults_of is ∙ short_version_faults) asked refused

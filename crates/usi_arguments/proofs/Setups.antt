@@ -2,7 +2,7 @@
 use Rattle.std.proofs.Common.{◌≡◌, ◌∙◌, ◌≤◌, ℕ, List, Option, Some, None, IfNone, codes, refl, sym, ap, arith, inl, inr, min}
 use Rattle.clap.specs.Words.{Row, Text, first_of}
 use Rattle.usi_arguments.specs.Answers.{NamesHost}
-use Rattle.usi_arguments.specs.CommandLine.{HasNone, IsFromOne, NamesNumber}
+use Rattle.usi_arguments.specs.CommandLine.{HasNoNumber, IsFromOne, NamesNumber}
 use Rattle.usi_arguments.specs.Setup.{HasDepth, HasNoDepth, HasNoEvaluation, HasNoSetup, NamesDepth, NamesSetup}
 use Rattle.usi_arguments.specs.declared.host.HostOptions.{HostOptions}
 use Rattle.usi_arguments.specs.declared.setup.Evaluation.{Evaluation}
@@ -46,7 +46,7 @@ host_once options a b first second =
     }
 
 -- options of which one has no value for a setup
-pub no_max_depth : (options : List Row) → HasNone (codes "max-depth") 16 options → HasNoSetup options
+pub no_max_depth : (options : List Row) → HasNoNumber (codes "max-depth") 16 options → HasNoSetup options
 no_max_depth options none setup range is = none setup.max_depth range.1 is.1
 
 pub no_depth : (options : List Row) (most : ℕ) → NamesNumber (codes "max-depth") options most → HasNoDepth options most → HasNoSetup options
@@ -54,16 +54,16 @@ no_depth options most max_is none setup range is =
     let same : setup.max_depth ≡ most = names_once (codes "max-depth") options setup.max_depth most is.1 max_is in
     none setup.depth range.0 (rw same at is.0)
 
-pub no_lines : (options : List Row) → HasNone (codes "lines") 8 options → HasNoSetup options
+pub no_lines : (options : List Row) → HasNoNumber (codes "lines") 8 options → HasNoSetup options
 no_lines options none setup range is = none setup.lines range.2 is.2
 
 -- an option `--depth` without a number in the range names no depth
-no_named_depth : (options : List Row) (most : ℕ) (text : Text) → first_of (codes "depth") options ≡ Some text → HasNone (codes "depth") 16 options → HasNoDepth options most
+no_named_depth : (options : List Row) (most : ℕ) (text : Text) → first_of (codes "depth") options ≡ Some text → HasNoNumber (codes "depth") 16 options → HasNoDepth options most
 no_named_depth options most text is none depth range (inl named) = none depth range named
 no_named_depth options most text is none depth range (inr left_out) = let out = left_out.0 in cc
 
 pub no_named_depths : (options : List Row) (most : ℕ) (text : Text) (r : Option ℕ) → first_of (codes "depth") options ≡ Some text
-    → IfNone r (HasNone (codes "depth") 16 options) → IfNone r (HasNoDepth options most)
+    → IfNone r (HasNoNumber (codes "depth") 16 options) → IfNone r (HasNoDepth options most)
 no_named_depths options most text (Some n) is none = tt
 no_named_depths options most text None is none = no_named_depth options most text is none
 

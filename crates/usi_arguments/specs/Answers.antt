@@ -6,7 +6,7 @@ use Rattle.clap.specs.declared.error.Error.{Error}
 use Rattle.clap.specs.declared.error.kind.ErrorKind.{ErrorKind}
 use Rattle.clap.specs.declared.error.kind.ErrorKind.TheVariants as kinds
 use Rattle.clap.specs.declared.parser.matches.ArgMatches.{ArgMatches}
-use Rattle.usi_arguments.specs.CommandLine.{IsFromOne, NamesNumber, NamesText, NamesTextIfAny, command_of, faults_of, is_set}
+use Rattle.usi_arguments.specs.CommandLine.{IsFromOne, NamesNumber, NamesText, NamesTextIfAny, named_command, faults_of, is_set}
 use Rattle.usi_arguments.specs.Setup.{HasNoEvaluation, HasSetupRanges, IsInReach, IsTooDeep, NamesEvaluation, NamesSetup, usual_setup}
 use Rattle.usi_arguments.specs.Texts.{not_an_evaluation, not_digits, not_odd, too_deep}
 use Rattle.usi_arguments.specs.declared.host.HostOptions.{HostOptions}
@@ -158,7 +158,7 @@ NamesNoJob command = (job : Job) → HasRanges job → NamesJob command job → 
 abbrev pub IsAskedBy : List Text → Job → Type 0
 IsAskedBy arguments (Help text) = IsAmong kinds.DisplayHelp (faults_of arguments)
 IsAskedBy arguments Version = IsAmong kinds.DisplayVersion (faults_of arguments)
-IsAskedBy arguments job = (faults_of arguments ≡ []) × NamesJob (command_of arguments) job
+IsAskedBy arguments job = (faults_of arguments ≡ []) × NamesJob (named_command arguments) job
 
 -- an error of this kind is a mistake, not a request for help or for the version
 abbrev pub IsMistake : ErrorKind → Type 0
@@ -199,7 +199,7 @@ IsNoJob command said = (NamesNoEvaluation command × (said ≡ not_an_evaluation
 abbrev pub HasMistake : List Text → List ℕ → Type 0
 HasMistake arguments said =
     ((kind : ErrorKind) × IsAmong kind (faults_of arguments) × IsMistake kind)
-    ⊎ ((faults_of arguments ≡ []) × IsNoJob (command_of arguments) said)
+    ⊎ ((faults_of arguments ≡ []) × IsNoJob (named_command arguments) said)
 
 -- arguments that are not accepted have a mistake
 abbrev pub IsRefusedFor : List Text → ArgumentsFault → Type 0
@@ -207,16 +207,16 @@ IsRefusedFor arguments OutOfMemory = ⊤
 IsRefusedFor arguments (NotAccepted text) = HasMistake arguments (string_bytes text)
 
 -- the result is this job, or memory ran out
-abbrev pub Gives : Job → Result Job ArgumentsFault → Type 0
-Gives job result = (result ≡ Ok job) ⊎ (result ≡ Err OutOfMemory)
+abbrev pub GivesJob : Job → Result Job ArgumentsFault → Type 0
+GivesJob job result = (result ≡ Ok job) ⊎ (result ≡ Err OutOfMemory)
 
 -- the result is `replay` with its default host, or memory ran out
 abbrev pub GivesReplay : Result Job ArgumentsFault → Type 0
-GivesReplay result = Gives (Replay usual_host) result
+GivesReplay result = GivesJob (Replay usual_host) result
 
 -- the result is `stdio` with its default number and setup, or memory ran out
 abbrev pub GivesStdio : Result Job ArgumentsFault → Type 0
-GivesStdio result = Gives (Stdio 4096 usual_setup) result
+GivesStdio result = GivesJob (Stdio 4096 usual_setup) result
 
 -- the result is a help, or memory ran out
 abbrev pub GivesHelp : Result Job ArgumentsFault → Type 0
@@ -272,6 +272,6 @@ IsAnswerToParsed parsed result =
     (λ error. IsAnswerTo (kind_of error) result)
 
 -- arguments that are not accepted are refused with this text
-abbrev pub Says : List ℕ → ArgumentsFault → Type 0
-Says text OutOfMemory = ⊤
-Says text (NotAccepted said) = string_bytes said ≡ text
+abbrev pub RefusesWith : List ℕ → ArgumentsFault → Type 0
+RefusesWith text OutOfMemory = ⊤
+RefusesWith text (NotAccepted said) = string_bytes said ≡ text

@@ -184,8 +184,8 @@ abbrev pub faults_of : List Text → Kinds
 faults_of = fault_of command_line
 
 -- the command that the arguments name, with its options
-abbrev pub command_of : List Text → Option (Text × List Row)
-command_of = subcommand_of command_line
+abbrev pub named_command : List Text → Option (Text × List Row)
+named_command = subcommand_of command_line
 
 -- the text is the number n in decimal digits alone: without a sign, which `clap` would take
 abbrev pub IsNumber : Text → ℕ → Type 0
@@ -217,8 +217,8 @@ abbrev pub HasNumber : Text → ℕ → List Row → ℕ → Type 0
 HasNumber name most options n = IsFromOne most n × NamesNumber name options n
 
 -- the option of this name has no number from 1 to `most`
-abbrev pub HasNone : Text → ℕ → List Row → Type 0
-HasNone name most options = (n : ℕ) → IsFromOne most n → NamesNumber name options n → ⊥
+abbrev pub HasNoNumber : Text → ℕ → List Row → Type 0
+HasNoNumber name most options = (n : ℕ) → IsFromOne most n → NamesNumber name options n → ⊥
 
 -- the flag of this name is set
 abbrev pub is_set : Text → List Row → Bool

@@ -1,7 +1,7 @@
 //! Jobs that the command line asks for.
 ghost use Rattle.std.specs.Prelude.{◌≡◌, [], false, true, IfErr, IfNone, IfOk, IfSome, codes, map, string_bytes};
 ghost use Rattle.clap.specs.Words.{kind_of, subcommand_rows_of};
-ghost use Rattle.usi_arguments.specs.Answers.{AreHelpArguments, AreReplayArguments, AreStdioArguments, AreVersionArguments, Gives, GivesHelp, GivesReplay, GivesStdio, HasRanges, HasReach, IsAnswerTo, IsAnswerToParsed, IsAskedBy, IsHeld, IsJobIn, IsJobOf, IsMateIn, IsMovesOf, IsPerftIn, IsRefusal, IsRefusedFor, IsReplayOf, IsServeIn, IsStdioOf, KnowsEvaluation, NamesNoEvaluation, NamesNoJob, NamesNoMate, NamesNoPerft, NamesNoReplay, NamesNoServe, NamesNoStdio, has_no_setup, is_even, setup_in};
+ghost use Rattle.usi_arguments.specs.Answers.{AreHelpArguments, AreReplayArguments, AreStdioArguments, AreVersionArguments, GivesJob, GivesHelp, GivesReplay, GivesStdio, HasRanges, HasReach, IsAnswerTo, IsAnswerToParsed, IsAskedBy, IsHeld, IsJobIn, IsJobOf, IsMateIn, IsMovesOf, IsPerftIn, IsRefusal, IsRefusedFor, IsReplayOf, IsServeIn, IsStdioOf, KnowsEvaluation, NamesNoEvaluation, NamesNoJob, NamesNoMate, NamesNoPerft, NamesNoReplay, NamesNoServe, NamesNoStdio, has_no_setup, is_even, setup_in};
 ghost use Rattle.usi_arguments.specs.CommandLine.{NamesTextIfAny, options_in};
 ghost use Rattle.usi_arguments.specs.Setup.{usual_setup};
 ghost use Rattle.usi_arguments.specs.Texts.{too_deep};
@@ -153,7 +153,8 @@ pub fn read_arguments<'a, S: AsStr>(
     ensures stdio { AreStdioArguments (map S.text arguments.entry.now) → GivesStdio result }
     ensures replay { AreReplayArguments (map S.text arguments.entry.now) → GivesReplay result }
     ensures help { AreHelpArguments (map S.text arguments.entry.now) → GivesHelp result }
-    ensures version { AreVersionArguments (map S.text arguments.entry.now) → Gives Version result }
+    ensures version { AreVersionArguments (map S.text arguments.entry.now)
+        → GivesJob Version result }
 {
     let line = command_line(alloc)?;
     answer_to(

@@ -1,7 +1,7 @@
 //! The refusal of arguments that cannot be read.
 ghost use Rattle.std.specs.Prelude.{◌≡◌};
 ghost use Rattle.usi_arguments.specs.Texts.{not_utf_8};
-ghost use Rattle.usi_arguments.specs.Answers.{Says};
+ghost use Rattle.usi_arguments.specs.Answers.{RefusesWith};
 
 use crate::arguments::ArgumentsFault;
 use std::alloc::Global;
@@ -11,7 +11,7 @@ use std::io::ErrorKind;
 /// `NotAccepted` as one of them is not UTF-8.
 pub fn unread_arguments(alloc: Global, kind: ErrorKind) -> ArgumentsFault
     ensures memory { kind ≡ ErrorKind.OutOfMemory → result ≡ ArgumentsFault.OutOfMemory }
-    ensures refused { Says not_utf_8 result }
+    ensures refused { RefusesWith not_utf_8 result }
 {
     if let ErrorKind::OutOfMemory = kind {
         return ArgumentsFault::OutOfMemory;

@@ -1,6 +1,6 @@
 //! The numbers and flags of options.
 ghost use Rattle.std.specs.Prelude.{◌≡◌, ◌<◌, ◌^◌, ℕ, IfNone, IfSome};
-ghost use Rattle.usi_arguments.specs.CommandLine.{HasNone, HasNumber, IsNumber, is_set, options_in};
+ghost use Rattle.usi_arguments.specs.CommandLine.{HasNoNumber, HasNumber, IsNumber, is_set, options_in};
 
 use clap::ArgMatches;
 
@@ -19,7 +19,7 @@ fn digits_alone(text: &str) -> Option<usize>
 /// The number of an option, if it is in digits alone and from 1 to `most`.
 pub(crate) fn number_of(options: &ArgMatches<'_>, name: &str, most: usize) -> Option<usize>
     ensures some { IfSome result (HasNumber name.now most (options_in options.now)) }
-    ensures if_none { IfNone result (HasNone name.now most (options_in options.now)) }
+    ensures if_none { IfNone result (HasNoNumber name.now most (options_in options.now)) }
 {
     let text = options.get_str(name)?;
     let n = digits_alone(text)?;
