@@ -10,7 +10,7 @@ use Rattle.host_core.specs.declared.notes.Activity.{Activity}
 use Rattle.host_core.specs.declared.notes.Note.{Note}
 use Rattle.host_core.specs.ById.{activity_of}
 use Rattle.host_core.specs.Steps.{HostState}
-use Rattle.host_core.specs.Notes.{AreNoted, AreSettled, noted}
+use Rattle.host_core.specs.Notes.{AreNoted, AreSettled, noted_activity}
 use Rattle.host_core.proofs.Rounds.{is_settled, vacant_settled}
 
 one_of : (n k : ℕ) (x note : Note) → slice_get (replicate n x) k ≡ Some note → x ≡ note
@@ -53,7 +53,7 @@ alone slots at (Some t) e some = λ id differs same.
     ∙ ap (λ (b : Bool). cond b (Some t) None) (ne_eqb at.generation id.generation (λ g. differs (same_id id at same (sym g)))))
 
 noted_here : (slots : OpenSessions SessionView) (at id : SessionId) (found : Option SessionView) → find slots at ≡ found → IsAlone slots at → id.slot ≡ at.slot
-    → noted (record { generation = at.generation; activity = activity_of found }) id.generation ≡ activity_of (find slots id)
+    → noted_activity (record { generation = at.generation; activity = activity_of found }) id.generation ≡ activity_of (find slots id)
 noted_here slots at id found finds only same =
     elim (cases_eq at.generation id.generation) [
       | inl g ↦ ap (λ (b : Bool). cond b (activity_of found) (activity_of None)) (eq-eqb at.generation id.generation g) ∙ ap activity_of (sym (ap (find slots) (same_id id at same (sym g)) ∙ finds))
@@ -94,7 +94,7 @@ quiet : (b : Bool) (note : Note) → note.activity.is_pending ≡ false → has_
 quiet true note e = e
 quiet false note e = refl
 
-settled_by : (h : HostState) (slot : ℕ) (note : Note) (opened : Option (OpenSession SessionView)) → slice_index_or h.slots.slots slot None ≡ opened → ((id : SessionId) → id.slot ≡ slot → noted note id.generation ≡ activity_of (find h.slots id)) → note.activity.is_pending ≡ false → AreSettled slot (slot + 1) h.slots.slots
+settled_by : (h : HostState) (slot : ℕ) (note : Note) (opened : Option (OpenSession SessionView)) → slice_index_or h.slots.slots slot None ≡ opened → ((id : SessionId) → id.slot ≡ slot → noted_activity note id.generation ≡ activity_of (find h.slots id)) → note.activity.is_pending ≡ false → AreSettled slot (slot + 1) h.slots.slots
 settled_by h slot note None e says idle = vacant_settled slot h.slots.slots slot e
 settled_by h slot note (Some o) e says idle =
     let id : SessionId = record { slot = slot; generation = o.generation } in

@@ -18,15 +18,15 @@ names id (Take at n) outcome = is_same_id at id
 names id (Close at) outcome = is_same_id at id
 
 -- each session that the event does not name is unchanged
-abbrev pub KeepsOthers : HostState → Event → Outcome → HostState → Type 0
-KeepsOthers old event outcome new =
+abbrev pub KeepsOtherSessions : HostState → Event → Outcome → HostState → Type 0
+KeepsOtherSessions old event outcome new =
     (id : SessionId) → names id event outcome ≡ false → find new.slots id ≡ find old.slots id
 
 -- each other session is unchanged when queued bytes of one are dropped with this result
 abbrev pub PassKeepsOthers : {U : Type 0} → HostState → SessionId → ℕ → Result U HostFault
     → HostState → Type 0
 PassKeepsOthers old id n result new =
-    KeepsOthers old (Take id n) (passed_from old id n result) new
+    KeepsOtherSessions old (Take id n) (passed_from old id n result) new
 
 -- the event was refused and is not a `Work`
 abbrev pub is_refused : Event → Outcome → Bool

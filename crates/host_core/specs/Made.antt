@@ -9,11 +9,11 @@ pub record Step : Type 0 where
   pub outcome : Outcome
 
 -- the events with their outcomes
-abbrev pub steps_of : {E O : Type 0} → (E → Event) → (O → Outcome) → List E → List O → List Step
-steps_of event outcome [] os = []
-steps_of event outcome (e ∷ es) [] = []
-steps_of event outcome (e ∷ es) (o ∷ os) =
-    record { event = event e; outcome = outcome o } ∷ steps_of event outcome es os
+abbrev pub steps_made : {E O : Type 0} → (E → Event) → (O → Outcome) → List E → List O → List Step
+steps_made event outcome [] os = []
+steps_made event outcome (e ∷ es) [] = []
+steps_made event outcome (e ∷ es) (o ∷ os) =
+    record { event = event e; outcome = outcome o } ∷ steps_made event outcome es os
 
 -- the ids are equal
 abbrev pub is_same_id : SessionId → SessionId → Bool

@@ -9,14 +9,15 @@ use Rattle.host_core.specs.ById.{activity_of}
 use Rattle.host_core.specs.Rounds.{pending_from}
 
 -- the activity that a note has for a generation: none if the note is of another one
-abbrev pub noted : Note → ℕ → Activity
-noted note generation = cond (note.generation == generation) note.activity (activity_of None)
+abbrev pub noted_activity : Note → ℕ → Activity
+noted_activity note generation =
+    cond (note.generation == generation) note.activity (activity_of None)
 
 -- each note has the activity of its slot's sessions
 abbrev pub AreNoted : List Note → OpenSessions SessionView → Type 0
 AreNoted notes slots =
     (id : SessionId) (note : Note) → slice_get notes id.slot ≡ Some note
-    → noted note id.generation ≡ activity_of (find slots id)
+    → noted_activity note id.generation ≡ activity_of (find slots id)
 
 -- no session between these slots is pending
 abbrev pub AreSettled : ℕ → ℕ → List (Option (OpenSession SessionView)) → Type 0

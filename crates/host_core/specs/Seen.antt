@@ -9,7 +9,7 @@ use Rattle.host_core.specs.declared.event.Outcome.TheVariants as outcome
 use Rattle.host_core.specs.declared.event.HostFault.{HostFault}
 use Rattle.host_core.specs.Events as events
 use Rattle.host_core.specs.ById.{queued_of}
-use Rattle.host_core.specs.Made.{Step, steps_of}
+use Rattle.host_core.specs.Made.{Step, steps_made}
 use Rattle.host_core.specs.Steps.{HostState}
 
 abbrev pub event_of : code_event.Event → events.Event
@@ -29,7 +29,7 @@ outcome_of (outcome.Refused fault) = events.Refused fault
 -- the events of a run with their outcomes
 abbrev pub answered : {A : Type 0} → List code_event.Event → List (code_outcome.Outcome A)
     → List Step
-answered {A} es os = steps_of event_of (outcome_of {A = A}) es os
+answered {A} es os = steps_made event_of (outcome_of {A = A}) es os
 
 -- the property holds of the events with their outcomes, if the run has any
 abbrev pub OfSteps : {A Z E : Type 0} → List code_event.Event

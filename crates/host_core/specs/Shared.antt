@@ -17,8 +17,8 @@ abbrev pub key_of_root : Root → Key
 key_of_root root = key_of root.position root.eval root.depth
 
 -- the table answers the root with its exact value and best move
-abbrev pub IsKnown : Table → Root → Type 0
-IsKnown table root = entry_of table.pairs (key_of_root root) ≡ Some (entry_of_root root)
+abbrev pub IsInTable : Table → Root → Type 0
+IsInTable table root = entry_of table.pairs (key_of_root root) ≡ Some (entry_of_root root)
 
 -- the calls are for fewer other keys than the capacity, and note no other entry under the root's key
 pub record LeaveRoom (table : Table) (root : Root) (calls : List Call) : Type 0 where
@@ -27,10 +27,10 @@ pub record LeaveRoom (table : Table) (root : Root) (calls : List Call) : Type 0 
   pub fewer : length others < table.capacity
 
 -- the root is known after any calls that leave room for it
-abbrev pub StaysKnown : Table → Root → Type 0
-StaysKnown table root =
+abbrev pub StaysInTable : Table → Root → Type 0
+StaysInTable table root =
     (later : Table) (calls : List Call) → AreCalled IsUsed table calls later
-    → LeaveRoom table root calls → IsKnown later root
+    → LeaveRoom table root calls → IsInTable later root
 
 -- the table did not have the root's key, and was refused the memory, which was counted
 pub record IsRefused (root : Root) (table : Table) : Type 0 where
@@ -42,7 +42,7 @@ pub record IsRefused (root : Root) (table : Table) : Type 0 where
 pub record IsShared (root : Root) (new : Table) : Type 0 where
   pub ended : Table
   pub since : IsCalled IsUsed ended new
-  pub known : StaysKnown ended root ⊎ IsRefused root ended
+  pub known : StaysInTable ended root ⊎ IsRefused root ended
 
 -- each search of a session that a `Work` ended is shared
 abbrev pub SharesSearches : Type 0

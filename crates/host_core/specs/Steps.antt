@@ -89,7 +89,7 @@ NeedsNoStep (Gave bytes) after = Unit {0}
 NeedsNoStep (Refused fault) after = Unit {0}
 
 -- the table keeps its capacity, and is unchanged if nothing of the session was pending. It was told each search of the session that ended. If it had the value of each root, with one line, no step was made
-pub record KeepsTable (old : HostState) (id : SessionId) (outcome : Outcome) (new : HostState)
+pub record WorksWithTable (old : HostState) (id : SessionId) (outcome : Outcome) (new : HostState)
     : Type 0 where
   pub capacity_is : new.table.capacity ≡ old.table.capacity
   pub idle : pending_of (find old.slots id) ≡ false → new.table ≡ old.table
@@ -105,7 +105,8 @@ pub record KeepsTable (old : HostState) (id : SessionId) (outcome : Outcome) (ne
 -- the session of the id worked
 abbrev pub IsWorked : ℕ → HostState → SessionId → Outcome → HostState → Type 0
 IsWorked budget old id outcome new =
-    OnSession (Works budget) old id (find old.slots id) outcome new × KeepsTable old id outcome new
+    OnSession (Works budget) old id (find old.slots id) outcome new
+    × WorksWithTable old id outcome new
 
 -- each event with its outcome and the host after it; only a `Work` of a pending session may change the table, and no event changes the setup
 abbrev pub Stepped : HostState → Event → Outcome → HostState → Type 0

@@ -2,7 +2,7 @@
 
 ghost use Rattle.std.specs.Prelude.{◌≡◌, Some, slice_set};
 ghost use Rattle.host_core.specs.ById.{activity_of};
-ghost use Rattle.host_core.specs.Notes.{noted};
+ghost use Rattle.host_core.specs.Notes.{noted_activity};
 
 use session_slots::SessionId;
 use std::alloc::Allocator;
@@ -63,7 +63,7 @@ impl Note {
 
     /// The activity that the note has for this generation; none if the note is of another one.
     pub fn of(&self, generation: u64) -> Activity
-        ensures { result ≡ noted self.now generation }
+        ensures { result ≡ noted_activity self.now generation }
     {
         if self.generation == generation {
             self.activity

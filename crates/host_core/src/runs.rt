@@ -4,7 +4,7 @@ ghost use Rattle.std.specs.Prelude.{◌≡◌, ◌≤◌, IfOk, OnErr, Err, leng
 ghost use Rattle.session_slots.specs.Slots.{IsBelow};
 ghost use Rattle.shared_table.specs.Recent.{AreTrue};
 ghost use Rattle.host_core.specs.Headline.{PrefixOfReplies, AllReplies, Continues, EndsByOwn, OverByOwn, EndsOn};
-ghost use Rattle.host_core.specs.Kept.{IfRefused, KeepsOthers};
+ghost use Rattle.host_core.specs.Kept.{IfRefused, KeepsOtherSessions};
 ghost use Rattle.host_core.specs.Runs.{IsRun};
 ghost use Rattle.host_core.specs.Seen.{OfSteps, event_of, outcome_of};
 ghost use Rattle.host_core.specs.Steps.{Stepped};
@@ -48,7 +48,8 @@ impl<S: BuildHasher, A: Allocator + Copy> Host<S, A> {
     /// left as it was. A refusal changes nothing, but for `Work` (see `Event::Work`).
     pub fn step(&mut self, event: Event<'_>) -> Outcome<A>
         ensures stepped { Stepped self.old (event_of event.entry) (outcome_of result) self.new }
-        ensures others { KeepsOthers self.old (event_of event.entry) (outcome_of result) self.new }
+        ensures others { KeepsOtherSessions self.old (event_of event.entry) (outcome_of result)
+            self.new }
         ensures refused { IfRefused self.old (event_of event.entry) (outcome_of result) self.new }
         ensures truth { AreTrue self.new.table.pairs }
         ensures fits { length self.new.table.pairs ≤ self.new.table.capacity }
