@@ -10,7 +10,7 @@ use Rattle.shared_table.proofs.UseLaws.{question_keeps, remembers}
 use Rattle.usi_session.specs.Due.{SessionView, roots_left, EndsSearches}
 use Rattle.usi_session.specs.Known.{IsAllKnown, TakesNoStep}
 use Rattle.usi_session.specs.Roots.{Root}
-use Rattle.usi_session.specs.Told.{AreTold, IsCalled, TellsValue, entry_of_root}
+use Rattle.usi_session.specs.Told.{AreTold, HasMadeCalls, TellsValue, entry_of_root}
 use Rattle.usi_session.proofs.TellsLaws.{called_after_told}
 use Rattle.host_core.specs.Events.{Work, Worked, Outcome}
 use Rattle.host_core.specs.Seen.{as_outcome}
@@ -19,7 +19,7 @@ use Rattle.host_core.specs.Shared.{IsShared, key_of_root}
 use Rattle.host_core.specs.Steps.{HostState, NeedsNoStep, Stepped}
 
 -- the root was noted, or answered
-shared_at : (root : Root) (old mid new : Table) → TellsValue IsUsed old mid root → IsCalled IsUsed mid new → IsShared root new
+shared_at : (root : Root) (old mid new : Table) → TellsValue IsUsed old mid root → HasMadeCalls IsUsed mid new → IsShared root new
 shared_at root old mid new (inl note) since = elim note.ends [
   | inl kept ↦ record {
     ended = mid;

@@ -9,7 +9,7 @@ use Rattle.shared_table.specs.Uses.{IsUsed, IsOfOthers}
 use Rattle.shogi_search.specs.Calls.{Call, AreCalled}
 use Rattle.usi_session.specs.Due.{SessionView, roots_left}
 use Rattle.usi_session.specs.Roots.{Root}
-use Rattle.usi_session.specs.Told.{IsCalled, entry_of_root}
+use Rattle.usi_session.specs.Told.{HasMadeCalls, entry_of_root}
 use Rattle.host_core.specs.Events.{Work, Outcome}
 use Rattle.host_core.specs.Steps.{HostState, Stepped}
 
@@ -41,7 +41,7 @@ pub record IsRefused (root : Root) (table : Table) : Type 0 where
 -- a search of the root ended before this state of the table: the root was then known and stays so, or memory was refused
 pub record IsShared (root : Root) (new : Table) : Type 0 where
   pub ended : Table
-  pub since : IsCalled IsUsed ended new
+  pub since : HasMadeCalls IsUsed ended new
   pub known : StaysInTable ended root ⊎ IsRefused root ended
 
 -- each search of a session that a `Work` ended is shared

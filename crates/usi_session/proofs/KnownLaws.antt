@@ -22,7 +22,7 @@ use Rattle.usi_session.specs.declared.state.State.{State}
 use Rattle.usi_session.specs.Answer.{write_or_hold}
 use Rattle.usi_session.specs.Due.{QueuesAnswer, QueuesEnd, roots_left}
 use Rattle.usi_session.specs.GoTaskView.{GoTaskView, IsNewGo, IsSameButForSearch, bestmove_to, deeper_roots, infos_left, is_searching, lines_roots, rest_of_go, rest_of_go_if, roots_of}
-use Rattle.usi_session.specs.Known.{AreKnown, HasOneLine, IsAllKnown, IsAsked, IsBetweenSearches, IsKnown, KeepsAnswers, StaysKnown}
+use Rattle.usi_session.specs.Known.{AreKnown, HasOneLine, IsAllKnown, AsksOneQuestion, IsBetweenSearches, IsRootKnown, KeepsAnswers, StaysAllKnown}
 use Rattle.usi_session.specs.Roots.{Root, pv_roots, root_of, roots_from, then_pv_roots}
 use Rattle.usi_session.specs.Walked.{IsUnder, Walked, first_search, running_go_of}
 use Rattle.usi_session.specs.WholeStream.{answer_to, answer_unless}
@@ -71,7 +71,7 @@ known_later before after same (x ∷ xs) all = (
 pub known_here : (answers : Shogi → Eval → ℕ → Option Entry) (q : GoRequest) (depths_done lines_done : ℕ) (walk : Walked) (search : Progress)
     → walk.eval ≡ q.eval → 0 < walk.plies
     → AreKnown answers (roots_of (running_go_of q depths_done lines_done None walk search))
-    → IsKnown answers (root_of walk.at walk.eval walk.plies)
+    → IsRootKnown answers (root_of walk.at walk.eval walk.plies)
 known_here answers q depths_done lines_done walk search e some all =
     let roots = pv_roots-above walk.at q.eval walk.plies some in
     let first : AreKnown answers (((root_of walk.at q.eval walk.plies ∷ then_pv_roots (λ next. pv_roots next q.eval (walk.plies - 1)) walk.at (best walk.at q.eval walk.plies)) ++ lines_roots q depths_done (lines_done + 1)) ++ deeper_roots q depths_done) =
@@ -80,13 +80,13 @@ known_here answers q depths_done lines_done walk search e some all =
 
 -- a search of the walk's position is answered by the memo
 pub answered_here : (answers : Shogi → Eval → ℕ → Option Entry) (walk : Walked) (search : Progress) (beta : ℤ)
-    → IsUnder search walk.at walk.eval walk.plies beta → IsKnown answers (root_of walk.at walk.eval walk.plies)
+    → IsUnder search walk.at walk.eval walk.plies beta → IsRootKnown answers (root_of walk.at walk.eval walk.plies)
     → IsExactlyAnsweredBy answers search
 answered_here answers walk search beta under known = rw (under.root, under.eval_is, under.depth_is) known
 
 -- a search of a known root asks the memo once, and nothing else
 pub asked_here : {M : Type 0} (called : M → Call → M → Type 0) (answers : Shogi → Eval → ℕ → Option Entry) (a b : M)
-    (search : Progress) → AsksRoot called answers a b search → IsExactlyAnsweredBy answers search → IsAsked called a b
+    (search : Progress) → AsksRoot called answers a b search → IsExactlyAnsweredBy answers search → AsksOneQuestion called a b
 asked_here called answers a b search asks known = record {
   position = search.root;
   eval = search.eval;
@@ -101,7 +101,7 @@ no_steps made steps before new old e f g h = omega arith
 
 -- a question leaves all roots known
 pub answers_kept : {M : Type 0} (answers : M → Shogi → Eval → ℕ → Option Entry) (called : M → Call → M → Type 0) (a b : M)
-    → KeepsAnswers answers called → IsAsked called a b
+    → KeepsAnswers answers called → AsksOneQuestion called a b
     → (q : Shogi) (f : Eval) (n : ℕ) → answers b q f n ≡ answers a q f n
 answers_kept answers called a b keeps asked =
     keeps a b asked.position asked.eval asked.depth asked.answer asked.question
@@ -134,7 +134,7 @@ new_go_between s (Some go) new one =
 pub known_answered : (s next : State) (queued more : List ℕ) (input rest : Buffer) (idle go_task : Option GoTaskView) (line : Line)
     → s.is_over ≡ false → idle ≡ None → ((x : List ℕ) → ahead input x ≡ line ∷ ahead rest x) → QueuesAnswer s line next queued more go_task
     → roots_left (record { state = next; go_task = go_task; queued = more; input = rest }) ≡ roots_left (record { state = s; go_task = idle; queued = queued; input = input })
-    → StaysKnown (record { state = s; go_task = idle; queued = queued; input = input }) (record { state = next; go_task = go_task; queued = more; input = rest })
+    → StaysAllKnown (record { state = s; go_task = idle; queued = queued; input = input }) (record { state = next; go_task = go_task; queued = more; input = rest })
 known_answered s next queued more input rest idle go_task line alive i first h roots = λ answers known.
     let at_line : HasOneLine s (line ∷ ahead rest []) = subst (HasOneLine s) (first []) (subst (λ (o : Option GoTaskView). HasOneLine (rest_of_go_if s o).state (ahead input [])) i known.one_line) in
     let later : HasOneLine (rest_of_go_if next go_task).state (ahead rest []) = subst (λ (t : State). HasOneLine t (ahead rest [])) (sym h.begun.state_is) (one_line-rest s line (ahead rest []) alive at_line) in
@@ -148,7 +148,7 @@ known_answered s next queued more input rest idle go_task line alive i first h r
 pub known_reported : (s : State) (queued more : List ℕ) (input : Buffer) (go next : GoTaskView) (go_task : Option GoTaskView)
     → go_task ≡ Some go → next.go_request ≡ go.go_request → (is_searching next ≡ true → next.is_begun ≡ false)
     → roots_left (record { state = s; go_task = Some next; queued = more; input = input }) ≡ roots_left (record { state = s; go_task = go_task; queued = queued; input = input })
-    → StaysKnown (record { state = s; go_task = go_task; queued = queued; input = input }) (record { state = s; go_task = Some next; queued = more; input = input })
+    → StaysAllKnown (record { state = s; go_task = go_task; queued = queued; input = input }) (record { state = s; go_task = Some next; queued = more; input = input })
 known_reported s queued more input go next go_task i q fresh roots = λ answers known.
     let one : HasOneLine (rest_of_go s go).state (ahead input []) = subst (λ (o : Option GoTaskView). HasOneLine (rest_of_go_if s o).state (ahead input [])) i known.one_line in
     let between : IsBetweenSearches go = subst (λ (o : Option GoTaskView). IfSome o IsBetweenSearches) i known.between in
@@ -162,7 +162,7 @@ known_reported s queued more input go next go_task i q fresh roots = λ answers 
 pub known_ended : (s next : State) (queued more : List ℕ) (input : Buffer) (go : GoTaskView) (go_task : Option GoTaskView)
     → go_task ≡ Some go → QueuesEnd go s next queued more
     → roots_left (record { state = next; go_task = None; queued = more; input = input }) ≡ roots_left (record { state = s; go_task = go_task; queued = queued; input = input })
-    → StaysKnown (record { state = s; go_task = go_task; queued = queued; input = input }) (record { state = next; go_task = None; queued = more; input = input })
+    → StaysAllKnown (record { state = s; go_task = go_task; queued = queued; input = input }) (record { state = next; go_task = None; queued = more; input = input })
 known_ended s next queued more input go go_task i h roots = λ answers known.
     let one : HasOneLine (rest_of_go s go).state (ahead input []) = subst (λ (o : Option GoTaskView). HasOneLine (rest_of_go_if s o).state (ahead input [])) i known.one_line in
     record {

@@ -25,9 +25,9 @@ use Rattle.minimax.proofs.MinimaxLaws.{best-code, best_code-above}
 use Rattle.shogi_search.proofs.RankedLaws.{best_ranked, in_ranked, first_in}
 use Rattle.usi_session.specs.declared.go_request.GoRequest.{GoRequest}
 use Rattle.usi_session.specs.Costs.{pvs_cost}
-use Rattle.usi_session.specs.GoInfos.{listed, pv_by}
+use Rattle.usi_session.specs.GoInfos.{listed_codes, pv_by}
 use Rattle.usi_session.specs.GoTaskView.{listed_at}
-use Rattle.usi_session.specs.Walked.{Walked, IsFirst, IsRanked, IsRankedTo, IsLine}
+use Rattle.usi_session.specs.Walked.{Walked, IsFirstMove, IsRanked, IsRankedTo, IsLine}
 
 -- the rest of a list begins with the element at its place
 pub drop_at : (xs : List ℕ) (n x : ℕ) → slice_get xs n ≡ Some x → drop n xs ≡ x ∷ drop (n + 1) xs
@@ -44,7 +44,7 @@ in_front (y ∷ xs) (suc n) zero x e = let q : y ≡ x = cc in or_left (x == y) 
 in_front (y ∷ xs) (suc n) (suc i) x e = or_right (x == y) (is_in x xs) (in_front xs n i x e)
 
 -- a listed move is legal
-pub listed_legal : (p : Shogi) (eval : Eval) (n d i : ℕ) (m : Move) → slice_get (listed p eval n d) i ≡ Some (code_of m) → move_of (code_of m) ≡ Some m → is_legal p m ≡ true
+pub listed_legal : (p : Shogi) (eval : Eval) (n d i : ℕ) (m : Move) → slice_get (listed_codes p eval n d) i ≡ Some (code_of m) → move_of (code_of m) ≡ Some m → is_legal p m ≡ true
 listed_legal p eval n d i m e b = listed_to_legal p m b (sym (in_ranked (worth p eval (d - 1)) (code_of m) (legal_codes p)) ∙ in_front (ranked_codes p eval d) n i (code_of m) e)
 
 take_first : (xs : List ℕ) (n x : ℕ) → 1 ≤ n → slice_get xs 0 ≡ Some x → slice_get (take n xs) 0 ≡ Some x
@@ -84,11 +84,11 @@ pub first_line : (p : Shogi) (eval : Eval) (d : ℕ) → 0 < d → legal_codes p
 first_line p eval d h ne = first_line_at p eval d (best_code p eval d) h ne refl
 
 -- the first line is listed
-pub first_listed : (p : Shogi) (eval : Eval) (n d : ℕ) (l : IsFirstLine p eval d) → 1 ≤ n → slice_get (listed p eval n d) 0 ≡ Some l.code
+pub first_listed : (p : Shogi) (eval : Eval) (n d : ℕ) (l : IsFirstLine p eval d) → 1 ≤ n → slice_get (listed_codes p eval n d) 0 ≡ Some l.code
 first_listed p eval n d l h = take_first (ranked_codes p eval d) n l.code h l.first_is
 
 -- with one line, one move is listed
-pub one_listed : (p : Shogi) (eval : Eval) (n d : ℕ) → n ≡ 1 → 0 < d → legal_codes p ≢ [] → length (listed p eval n d) ≡ 1
+pub one_listed : (p : Shogi) (eval : Eval) (n d : ℕ) → n ≡ 1 → 0 < d → legal_codes p ≢ [] → length (listed_codes p eval n d) ≡ 1
 one_listed p eval n d e h ne =
     ap (λ (k : ℕ). length (take k (ranked_codes p eval d))) e ∙ (let l : IsFirstLine p eval d = first_line p eval d h ne in take_one (ranked_codes p eval d) l.code l.first_is)
 
@@ -96,7 +96,7 @@ some_in : (xs : List ℕ) (c : ℕ) → is_in c xs ≡ true → xs ≢ []
 some_in xs c i e = both_ways _ (sym i ∙ ap (is_in c) e) refl
 
 -- if there is a first move, some move is legal
-pub first_some : (p : Shogi) (m : Move) → IsFirst p m → legal_codes p ≢ []
+pub first_some : (p : Shogi) (m : Move) → IsFirstMove p m → legal_codes p ≢ []
 first_some p m e n = let q : code_of m ∷ legal_above p (Some m) ≡ [] = sym e ∙ n in cc
 
 -- if there is a root move, some move is legal

@@ -24,7 +24,7 @@ use Rattle.shogi_search.proofs.RankedUse.{IsGoneThrough, gone_all, gone_window}
 use Rattle.usi_session.specs.declared.go_request.GoRequest.{GoRequest}
 use Rattle.usi_session.specs.declared.state.HeldBestmove.{HeldBestmove}
 use Rattle.usi_session.specs.Costs.{pvs_cost}
-use Rattle.usi_session.specs.GoInfos.{listed}
+use Rattle.usi_session.specs.GoInfos.{listed_codes}
 use Rattle.usi_session.specs.GoTaskView.{listed_at, bestmove_to, cost_of_depths, is_searching, load_of, load_after_root_move}
 use Rattle.usi_session.specs.Phases.{IsAtPhase, IsListed, first_phase, go_at, lines_done_in, lines_done_of}
 use Rattle.usi_session.specs.declared.phase.Child.{Child}
@@ -32,7 +32,7 @@ use Rattle.usi_session.specs.declared.phase.Listed.{Listed}
 use Rattle.usi_session.specs.declared.phase.PvLine.{PvLine}
 use Rattle.usi_session.specs.declared.phase.Phase.{Phase}
 use Rattle.usi_session.specs.declared.phase.Phase.TheVariants.{AtMove, AtLine}
-use Rattle.usi_session.specs.Walked.{Walked, walk_from, IsLine, IsQuestionInRange, IsFirst, IsUnder, IsRanked, IsRankedTo, IsRankedUpTo, first_search, is_settled, running_go_of}
+use Rattle.usi_session.specs.Walked.{Walked, walk_from, IsLine, IsQuestionInRange, IsFirstMove, IsUnder, IsRanked, IsRankedTo, IsRankedUpTo, first_search, is_settled, running_go_of}
 use Rattle.usi_session.proofs.Listed.{IsFirstLine, first_line, first_listed, first_some, one_listed}
 use Rattle.usi_session.proofs.RunningGoLaws.{cost_of_depths-more}
 
@@ -96,7 +96,7 @@ abbrev no_ranks : GoRequest → Ranking
 no_ranks go_request = record { lines = go_request.multi_pv; pairs = [] }
 
 -- the invariant when a depth begins
-begun_at : (go_request : GoRequest) (first : Move) (depths_done : ℕ) (kept : HeldBestmove) (one : Bool) → (go_request.multi_pv == 1) ≡ one → IsQuestionInRange go_request → IsFirst go_request.position first
+begun_at : (go_request : GoRequest) (first : Move) (depths_done : ℕ) (kept : HeldBestmove) (one : Bool) → (go_request.multi_pv == 1) ≡ one → IsQuestionInRange go_request → IsFirstMove go_request.position first
     → IsAtPhase go_request depths_done (cond one (AtLine (record { walk = walk_from go_request.position go_request.eval (depths_done + 1); listed = None })) (AtMove (record { root_move = first; ranks = no_ranks go_request }))) kept (cond one (untouched go_request.position go_request.eval (depths_done + 1)) (untouched (after go_request.position first) go_request.eval depths_done))
 begun_at go_request first depths_done kept true e a f =
     let n : go_request.multi_pv ≡ 1 = eqb-true go_request.multi_pv 1 e in
@@ -120,13 +120,13 @@ begun_at go_request first depths_done kept false e a f = record {
   searched = under_start _ (after go_request.position first) go_request.eval depths_done (child_beta (no_ranks go_request)) refl;
 }
 
-pub begun : (go_request : GoRequest) (first : Move) (depths_done : ℕ) (kept : HeldBestmove) → IsQuestionInRange go_request → IsFirst go_request.position first
+pub begun : (go_request : GoRequest) (first : Move) (depths_done : ℕ) (kept : HeldBestmove) → IsQuestionInRange go_request → IsFirstMove go_request.position first
     → IsAtPhase go_request depths_done (first_phase go_request first depths_done) kept (first_search go_request first depths_done)
 begun go_request first depths_done kept a f = begun_at go_request first depths_done kept (go_request.multi_pv == 1) refl a f
 
-begun_cost_at : (go_request : GoRequest) (first : Move) (depths_done : ℕ) (above : ℕ) (one : Bool) → (go_request.multi_pv == 1) ≡ one → IsFirst go_request.position first → move_of (code_of first) ≡ Some first → above ≡ cost_of_depths go_request (depths_done + 1) (go_request.depth - (depths_done + 1))
+begun_cost_at : (go_request : GoRequest) (first : Move) (depths_done : ℕ) (above : ℕ) (one : Bool) → (go_request.multi_pv == 1) ≡ one → IsFirstMove go_request.position first → move_of (code_of first) ≡ Some first → above ≡ cost_of_depths go_request (depths_done + 1) (go_request.depth - (depths_done + 1))
     → load_of (go_at go_request depths_done (cond one (AtLine (record { walk = walk_from go_request.position go_request.eval (depths_done + 1); listed = None })) (AtMove (record { root_move = first; ranks = no_ranks go_request }))) (cond one (untouched go_request.position go_request.eval (depths_done + 1)) (untouched (after go_request.position first) go_request.eval depths_done)))
-    ≤ cond one (pv_cost go_request.position go_request.eval (depths_done + 1)) (4 * sum_of_tree_sizes go_request.position (depths_done + 1 - 1) (legal_codes go_request.position) + pvs_cost go_request.position go_request.eval (depths_done + 1 - 1) (listed go_request.position go_request.eval go_request.multi_pv (depths_done + 1))) + above
+    ≤ cond one (pv_cost go_request.position go_request.eval (depths_done + 1)) (4 * sum_of_tree_sizes go_request.position (depths_done + 1 - 1) (legal_codes go_request.position) + pvs_cost go_request.position go_request.eval (depths_done + 1 - 1) (listed_codes go_request.position go_request.eval go_request.multi_pv (depths_done + 1))) + above
 begun_cost_at go_request first depths_done above true e f b a =
     let n : go_request.multi_pv ≡ 1 = eqb-true go_request.multi_pv 1 e in
     let l : length (listed_at go_request depths_done) ≡ 1 = one_listed go_request.position go_request.eval go_request.multi_pv (depths_done + 1) n (omega arith) (first_some go_request.position first f) in
@@ -140,7 +140,7 @@ begun_cost_at go_request first depths_done above false e f b a =
     rw k (omega arith)
 
 -- when a depth begins, its cost and that of the depths above bound the load
-pub begun_cost : (go_request : GoRequest) (first : Move) (depths_done : ℕ) → depths_done < go_request.depth → IsFirst go_request.position first → move_of (code_of first) ≡ Some first
+pub begun_cost : (go_request : GoRequest) (first : Move) (depths_done : ℕ) → depths_done < go_request.depth → IsFirstMove go_request.position first → move_of (code_of first) ≡ Some first
     → load_of (go_at go_request depths_done (first_phase go_request first depths_done) (first_search go_request first depths_done)) ≤ cost_of_depths go_request depths_done (go_request.depth - depths_done)
 begun_cost go_request first depths_done h f b =
     rw (cost_of_depths-more go_request depths_done h) (begun_cost_at go_request first depths_done (cost_of_depths go_request (depths_done + 1) (go_request.depth - (depths_done + 1))) (go_request.multi_pv == 1) refl f b refl)
@@ -180,6 +180,6 @@ next_child_cost go_request depths_done root_move m w s beta e a n =
     omega arith
 
 -- the next depth's load is at most that of the depths above
-pub next_depth_cost : (go_request : GoRequest) (first : Move) (depths_done : ℕ) (phase : Phase) (s : Progress) → depths_done + 1 < go_request.depth → IsFirst go_request.position first → move_of (code_of first) ≡ Some first
+pub next_depth_cost : (go_request : GoRequest) (first : Move) (depths_done : ℕ) (phase : Phase) (s : Progress) → depths_done + 1 < go_request.depth → IsFirstMove go_request.position first → move_of (code_of first) ≡ Some first
     → load_of (go_at go_request (depths_done + 1) (first_phase go_request first (depths_done + 1)) (first_search go_request first (depths_done + 1))) ≤ load_of (go_at go_request depths_done phase s)
 next_depth_cost go_request first depths_done phase s h f b = omega (arith, begun_cost go_request first (depths_done + 1) h f b)

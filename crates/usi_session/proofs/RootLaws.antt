@@ -11,14 +11,14 @@ use Rattle.shogi_eval.specs.declared.eval.Eval.{Eval}
 use Rattle.minimax.specs.Minimax.{best}
 use Rattle.shogi_search.specs.Progress.{Progress}
 use Rattle.usi_session.specs.declared.go_request.GoRequest.{GoRequest}
-use Rattle.usi_session.specs.GoInfos.{listed}
+use Rattle.usi_session.specs.GoInfos.{listed_codes}
 use Rattle.usi_session.specs.Roots.{Root, root_of, pv_roots, pvs_roots, then_pv_roots, depth_roots, roots_of_depths, roots_where}
 use Rattle.usi_session.specs.GoTaskView.{GoTaskView, current_roots, deeper_roots, ends_depth, is_last, is_last_of_depth, is_searching, lines_roots, listed_at, roots_of}
 use Rattle.usi_session.specs.Phases.{first_phase, go_at, lines_done_in, root_move_in, walk_in}
 use Rattle.usi_session.specs.declared.phase.Child.{Child}
 use Rattle.usi_session.specs.declared.phase.Phase.{Phase}
 use Rattle.usi_session.specs.declared.phase.Phase.TheVariants.{AtMove, AtLine}
-use Rattle.usi_session.specs.Walked.{IsFirst, LeavesRoots, running_go_of, walk_from}
+use Rattle.usi_session.specs.Walked.{IsFirstMove, LeavesRoots, running_go_of, walk_from}
 use Rattle.usi_session.proofs.Listed.{drop_at, first_some, one_listed}
 use Rattle.usi_session.proofs.NextSearch.{not_above}
 
@@ -69,9 +69,9 @@ lines_roots-none : (go_request : GoRequest) (depths_done lines_done : ℕ) → l
 lines_roots-none go_request depths_done lines_done e =
     ap (pvs_roots go_request.position go_request.eval depths_done) (drop_all lines_done (listed_at go_request depths_done) (omega arith))
 
-begun_at : (go_request : GoRequest) (first : Move) (depths_done : ℕ) (search : Progress) (one : Bool) → (go_request.multi_pv == 1) ≡ one → IsFirst go_request.position first
+begun_at : (go_request : GoRequest) (first : Move) (depths_done : ℕ) (search : Progress) (one : Bool) → (go_request.multi_pv == 1) ≡ one → IsFirstMove go_request.position first
     → current_roots (root_move_in (cond one (AtLine (record { walk = walk_from go_request.position go_request.eval (depths_done + 1); listed = None })) (AtMove (record { root_move = first; ranks = record { lines = go_request.multi_pv; pairs = [] } })))) (go_at go_request depths_done (cond one (AtLine (record { walk = walk_from go_request.position go_request.eval (depths_done + 1); listed = None })) (AtMove (record { root_move = first; ranks = record { lines = go_request.multi_pv; pairs = [] } }))) search)
-    ≡ cond one (pv_roots go_request.position go_request.eval (depths_done + 1)) (pvs_roots go_request.position go_request.eval (depths_done + 1 - 1) (listed go_request.position go_request.eval go_request.multi_pv (depths_done + 1)))
+    ≡ cond one (pv_roots go_request.position go_request.eval (depths_done + 1)) (pvs_roots go_request.position go_request.eval (depths_done + 1 - 1) (listed_codes go_request.position go_request.eval go_request.multi_pv (depths_done + 1)))
 begun_at go_request first depths_done search true e f =
     let len : length (listed_at go_request depths_done) ≡ 1 = one_listed go_request.position go_request.eval go_request.multi_pv (depths_done + 1) (eqb-true go_request.multi_pv 1 e) (omega arith) (first_some go_request.position first f) in
     ap (λ (roots : List Root). pv_roots go_request.position go_request.eval (depths_done + 1) ++ roots) (lines_roots-none go_request depths_done 1 (sym len))
@@ -80,7 +80,7 @@ begun_at go_request first depths_done search false e f =
     let k : depths_done + 1 - 1 ≡ depths_done = omega arith in rw k refl
 
 -- when a depth begins, its searches and those above it are left
-pub begun_roots : (go_request : GoRequest) (first : Move) (depths_done : ℕ) (search : Progress) → depths_done < go_request.depth → IsFirst go_request.position first
+pub begun_roots : (go_request : GoRequest) (first : Move) (depths_done : ℕ) (search : Progress) → depths_done < go_request.depth → IsFirstMove go_request.position first
     → roots_of (go_at go_request depths_done (first_phase go_request first depths_done) search)
     ≡ roots_of_depths go_request.position go_request.eval go_request.multi_pv depths_done (go_request.depth - depths_done)
 begun_roots go_request first depths_done search h f =

@@ -13,7 +13,7 @@ use Rattle.usi_session.specs.declared.state.HeldBestmove.{HeldBestmove}
 use Rattle.usi_session.specs.GoInfos.{info_lines, depth_lines, go_infos}
 use Rattle.usi_session.specs.Costs.{depth_cost, cost_to_depth}
 use Rattle.usi_session.specs.Answer.{write_or_hold, answer_go}
-use Rattle.usi_session.specs.Walked.{IsFirst}
+use Rattle.usi_session.specs.Walked.{IsFirstMove}
 use Rattle.usi_session.specs.GoTaskView.{GoTaskView, infos_of_depths, deeper_infos, infos_to_come, infos_left, infos_after, bestmove_to, rest_of_go, ends_depth, is_last, cost_of_depths}
 use Rattle.usi_session.proofs.Infos.{info_lines-start, info_lines-more, go_infos-some, not_empty}
 
@@ -117,7 +117,7 @@ abbrev pub question_of : State → ℕ → Hold → GoRequest
 question_of s depth hold = record { position = s.position; eval = s.options.eval; multi_pv = s.options.multi_pv; depth = depth; hold = hold }
 
 -- before the first line of a `go`, its rest is its whole answer
-pub begins-rest : (s : State) (depth : ℕ) (hold : Hold) (first : Move) (go : GoTaskView) → 0 < depth → IsFirst s.position first → go.go_request ≡ question_of s depth hold → go.depths_done ≡ 0 → go.lines_done ≡ 0 → rest_of_go s go ≡ answer_go s depth hold
+pub begins-rest : (s : State) (depth : ℕ) (hold : Hold) (first : Move) (go : GoTaskView) → 0 < depth → IsFirstMove s.position first → go.go_request ≡ question_of s depth hold → go.depths_done ≡ 0 → go.lines_done ≡ 0 → rest_of_go s go ≡ answer_go s depth hold
 begins-rest s depth hold first go some f q t h =
     let all : infos_to_come (question_of s depth hold) 0 0 ≡ go_infos s.position s.options.eval s.options.multi_pv depth = infos_to_come-all (question_of s depth hold) some (not_empty (legal_codes s.position) (legal_above s.position (Some first)) (code_of first) f) in
     let left : infos_left go ≡ go_infos s.position s.options.eval s.options.multi_pv depth = rw (q, t, h) all in

@@ -12,7 +12,7 @@ use Rattle.usi_session.specs.WholeStream.{replies_from, state_from, answer_to, a
 use Rattle.usi_session.specs.GoTaskView.{GoTaskView, IsSameButForSearch, rest_of_go, rest_of_go_if, with_rest, load_after_search, load_of, load_of_if, infos_left, infos_after, bestmove_to, is_last, reports_of, reports_of_if, roots_of, roots_of_if, is_searching, most_reports}
 use Rattle.usi_session.specs.Costs.{costs_from, cost_to}
 use Rattle.usi_session.specs.Roots.{Root, roots_to, roots_from}
-use Rattle.usi_session.specs.Due.{SessionView, IsMidSearch, KeepsAll, KeepsDue, KeepsRoots, QueuesAnswer, QueuesEnd, QueuesLine, owed, owed_after, load_ahead, roots_ahead, roots_due, roots_unless_over, is_pending, has_line, roots_left, turns}
+use Rattle.usi_session.specs.Due.{SessionView, IsMidSearch, KeepsDueAndRoots, KeepsDue, KeepsRoots, QueuesAnswer, QueuesEnd, QueuesLine, owed, owed_after, load_ahead, roots_ahead, roots_due, roots_unless_over, is_pending, has_line, roots_left, turns}
 use Rattle.usi_session.proofs.Settled.{replies_from-over}
 use Rattle.usi_session.proofs.RootLaws.{roots_of-last}
 use Rattle.usi_session.proofs.WholeReplies.{grows_by_none, grows_then}
@@ -196,7 +196,7 @@ less_load new old budget (Some n) spent made = let h : n + new ≤ old = made in
 pub keeps_same : (old new : SessionView) → new ≡ old → KeepsDue old new
 keeps_same old new e = rw e (record { due_is = λ x. refl; after_is = λ x. refl; load_most = omega arith; grown = grows_by_none old.queued })
 
-pub all_kept : (old new : SessionView) → new ≡ old → KeepsAll old new
+pub all_kept : (old new : SessionView) → new ≡ old → KeepsDueAndRoots old new
 all_kept old new e = record { due = keeps_same old new e; roots = λ x. ap (λ (t : SessionView). roots_due t x) e }
 
 -- replies due that stay over two calls

@@ -17,14 +17,14 @@ use Rattle.shogi_search.specs.declared.found.Found.{Found}
 use Rattle.shogi_search.proofs.CallLaws.{calls_and_calls, no_calls, one_call}
 use Rattle.usi_session.specs.Roots.{Root, root_of}
 use Rattle.usi_session.specs.Walked.{IsUnder}
-use Rattle.usi_session.specs.Told.{AreTold, IsCalled, TellsEnded, TellsEndedFor, TellsValue, entry_of_root}
+use Rattle.usi_session.specs.Told.{AreTold, HasMadeCalls, TellsEnded, TellsEndedFor, TellsValue, entry_of_root}
 
 -- no call was made
-pub none_called : {M : Type 0} (called : M → Call → M → Type 0) (a : M) → IsCalled called a a
+pub none_called : {M : Type 0} (called : M → Call → M → Type 0) (a : M) → HasMadeCalls called a a
 none_called called a = record { calls = []; each = no_calls called a }
 
 is_called_then : {M : Type 0} (called : M → Call → M → Type 0) (a b c : M)
-    → IsCalled called a b → IsCalled called b c → IsCalled called a c
+    → HasMadeCalls called a b → HasMadeCalls called b c → HasMadeCalls called a c
 is_called_then called a b c first second = record {
   calls = first.calls ++ second.calls;
   each = calls_and_calls called a b c first.calls second.calls first.each second.each;
@@ -32,7 +32,7 @@ is_called_then called a b c first second = record {
 
 -- the last of later calls is the last of all
 ends_later : {M : Type 0} (called : M → Call → M → Type 0) (a b c : M) (call : Call)
-    → IsCalled called a b → EndsWith called b c call → EndsWith called a c call
+    → HasMadeCalls called a b → EndsWith called b c call → EndsWith called a c call
 ends_later called a b c call first last = record {
   calls = first.calls ++ last.calls;
   before = last.before;
@@ -41,12 +41,12 @@ ends_later called a b c call first last = record {
 }
 
 tells_later : {M : Type 0} (called : M → Call → M → Type 0) (a b c : M) (root : Root)
-    → IsCalled called a b → TellsValue called b c root → TellsValue called a c root
+    → HasMadeCalls called a b → TellsValue called b c root → TellsValue called a c root
 tells_later called a b c root first (inl note) = inl (ends_later called a b c _ first note)
 tells_later called a b c root first (inr probe) = inr (ends_later called a b c _ first probe)
 
 told_later : {M : Type 0} (called : M → Call → M → Type 0) (a b c : M) (roots : List Root)
-    → IsCalled called a b → AreTold called b roots c → AreTold called a roots c
+    → HasMadeCalls called a b → AreTold called b roots c → AreTold called a roots c
 unfolding AreTold
 told_later called a b c [] first rest = is_called_then called a b c first rest
 told_later called a b c (root ∷ roots) first rest =
@@ -61,12 +61,12 @@ told_and_told called a b c (x ∷ xs) ys first second =
 
 -- no search ended
 pub none_ended : {M : Type 0} (called : M → Call → M → Type 0) (a b : M) (old new : List Root)
-    → IsCalled called a b → new ≡ old → TellsEnded called a b old new
+    → HasMadeCalls called a b → new ≡ old → TellsEnded called a b old new
 unfolding AreTold
 none_ended called a b old new calls e = record { ended = []; left = sym e; told = calls }
 
 pub none_ended_for : {M : Type 0} (called : M → Call → M → Type 0) (a b : M) (old new : List ℕ → List Root)
-    → IsCalled called a b → ((x : List ℕ) → new x ≡ old x) → TellsEndedFor called a b old new
+    → HasMadeCalls called a b → ((x : List ℕ) → new x ≡ old x) → TellsEndedFor called a b old new
 unfolding AreTold
 none_ended_for called a b old new calls e = record { ended = []; left = λ x. sym (e x); told = calls }
 
@@ -125,20 +125,20 @@ told_value called a b old new result f p eval d under again over below finds_val
     subst (TellsValue called a b) (λ k. record { position = under.root k; eval = under.eval_is k; depth = under.depth_is k }) at_root
 
 last_called : {M : Type 0} (called : M → Call → M → Type 0) (a b : M) (call : Call)
-    → EndsWith called a b call → IsCalled called a b
+    → EndsWith called a b call → HasMadeCalls called a b
 last_called called a b call last = record {
   calls = last.calls ++ call ∷ [];
   each = calls_and_calls called a last.before b last.calls (call ∷ []) last.each (one_call called last.before b call last.ends);
 }
 
 called_at : {M : Type 0} (called : M → Call → M → Type 0) (a b : M) (root : Root)
-    → TellsValue called a b root → IsCalled called a b
+    → TellsValue called a b root → HasMadeCalls called a b
 called_at called a b root (inl note) = last_called called a b _ note
 called_at called a b root (inr probe) = last_called called a b _ probe
 
 -- the calls that were made while searches ended
 pub called_after_told : {M : Type 0} (called : M → Call → M → Type 0) (a b : M) (roots : List Root)
-    → AreTold called a roots b → IsCalled called a b
+    → AreTold called a roots b → HasMadeCalls called a b
 unfolding AreTold
 called_after_told called a b [] told = told
 called_after_told called a b (root ∷ roots) told =

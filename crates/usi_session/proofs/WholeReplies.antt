@@ -19,7 +19,7 @@ use Rattle.usi_session.specs.declared.state.State.{State}
 use Rattle.usi_texts.specs.Options.{option_lines}
 use Rattle.usi_texts.specs.Texts.{usi_reply, score_text, moves_text, info_for, info_text, numbered_info_text, info_line, bestmove_line, bad_position_line, illegal_move_line}
 use Rattle.usi_texts.specs.PositionCommand.{position_of_startpos, position_of_sfen}
-use Rattle.usi_session.specs.GoInfos.{listed, pv_by, numbered_line, numbered_lines, depth_lines, info_lines, go_infos, go_infos_where}
+use Rattle.usi_session.specs.GoInfos.{listed_codes, pv_by, numbered_line, numbered_lines, depth_lines, info_lines, go_infos, go_infos_where}
 use Rattle.usi_texts.specs.declared.setup.Setup.{Setup}
 use Rattle.usi_texts.specs.Setup.{offers}
 use Rattle.usi_session.specs.Answer.{answer, answer_with, set_options, depth_of_go, answer_position, write_or_hold, answer_stop, answer_ponderhit_held, answer_ponderhit, held_line, bestmove_at}
@@ -91,7 +91,7 @@ either-whole true xs ys e f = e
 either-whole false xs ys e f = f
 
 depth_lines-whole : (p : Shogi) (eval : Eval) (multi_pv depth : ℕ) → AreWholeLines (depth_lines p eval multi_pv depth)
-depth_lines-whole p eval multi_pv depth = either-whole (multi_pv == 1) (info_line p eval depth) (numbered_lines p eval depth 1 (listed p eval multi_pv depth)) (info_whole depth (value p eval depth) (pv p eval depth)) (numbered_lines-whole p eval depth 1 (listed p eval multi_pv depth))
+depth_lines-whole p eval multi_pv depth = either-whole (multi_pv == 1) (info_line p eval depth) (numbered_lines p eval depth 1 (listed_codes p eval multi_pv depth)) (info_whole depth (value p eval depth) (pv p eval depth)) (numbered_lines-whole p eval depth 1 (listed_codes p eval multi_pv depth))
 
 info_lines-whole : (p : Shogi) (eval : Eval) (multi_pv depth : ℕ) → AreWholeLines (info_lines p eval multi_pv depth)
 unfolding info_lines

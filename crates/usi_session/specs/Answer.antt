@@ -46,15 +46,15 @@ abbrev pub initial_state : State
 initial_state = initial_state_under default_setup
 
 -- the answer was given: its bytes were appended, and its state taken
-pub record IsGiven (answer : Answer) (before after : List ℕ) (state : State) : Type 0 where
+pub record IsAnswerGiven (answer : Answer) (before after : List ℕ) (state : State) : Type 0 where
   pub bytes : after ≡ before ++ answer.bytes
   pub state_is : state ≡ answer.state
 
 -- on success, the answer was given
-abbrev pub Gives : {A E : Type 0} → Result (Unit {0}) E → Answer → Vec ℕ A → Vec ℕ A → State
+abbrev pub GivesAnswer : {A E : Type 0} → Result (Unit {0}) E → Answer → Vec ℕ A → Vec ℕ A → State
     → Type 0
-Gives result answer before after state =
-    OnOk result (IsGiven answer before.items after.items state)
+GivesAnswer result answer before after state =
+    OnOk result (IsAnswerGiven answer before.items after.items state)
 
 -- the state without a held bestmove
 abbrev pub without_bestmove : State → State

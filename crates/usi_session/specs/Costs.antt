@@ -10,7 +10,7 @@ use Rattle.usi_lines.specs.CommandLines.{command_of}
 use Rattle.usi_lines.specs.Lines.{Line, Text, TooLong}
 use Rattle.usi_session.specs.declared.state.State.{State}
 use Rattle.usi_session.specs.Answer.{depth_of_go}
-use Rattle.usi_session.specs.GoInfos.{listed}
+use Rattle.usi_session.specs.GoInfos.{listed_codes}
 use Rattle.usi_session.specs.WholeStream.{answer_line}
 
 -- the most steps along the pvs of these moves, with this many plies after each move
@@ -23,7 +23,7 @@ abbrev pub depth_cost : Shogi → Eval → ℕ → ℕ → ℕ
 depth_cost position eval multi_pv depth =
     cond (multi_pv == 1) (pv_cost position eval depth)
     (4 * sum_of_tree_sizes position (depth - 1) (legal_codes position)
-    + pvs_cost position eval (depth - 1) (listed position eval multi_pv depth))
+    + pvs_cost position eval (depth - 1) (listed_codes position eval multi_pv depth))
 
 -- the most steps of all depths from 1 to this one
 unfoldable pub cost_to_depth : Shogi → Eval → ℕ → ℕ → ℕ

@@ -91,7 +91,7 @@ pub record KeepsDue (old new : SessionView) : Type 0 where
   pub grown : GrowsByLines old.queued new.queued
 
 -- the replies due and the searches still to end stay
-pub record KeepsAll (old new : SessionView) : Type 0 where
+pub record KeepsDueAndRoots (old new : SessionView) : Type 0 where
   pub due : KeepsDue old new
   pub roots : KeepsRoots old new
 

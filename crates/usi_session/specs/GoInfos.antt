@@ -18,8 +18,8 @@ abbrev pub move_to_ponder : List Move → Option Move
 move_to_ponder moves = slice_get moves 1
 
 -- the codes of the best moves at a depth of at least 1, at most as many as there are lines
-abbrev pub listed : Shogi → Eval → ℕ → ℕ → List ℕ
-listed position eval multi_pv depth = take multi_pv (ranked_codes position eval depth)
+abbrev pub listed_codes : Shogi → Eval → ℕ → ℕ → List ℕ
+listed_codes position eval multi_pv depth = take multi_pv (ranked_codes position eval depth)
 
 -- the pv that begins with the move of a code
 abbrev pub pv_by : Shogi → Eval → ℕ → ℕ → List Move
@@ -42,7 +42,7 @@ numbered_lines position eval depth number (code ∷ rest) =
 abbrev pub depth_lines : Shogi → Eval → ℕ → ℕ → List ℕ
 depth_lines position eval multi_pv depth =
     cond (multi_pv == 1) (info_line position eval depth)
-    (numbered_lines position eval depth 1 (listed position eval multi_pv depth))
+    (numbered_lines position eval depth 1 (listed_codes position eval multi_pv depth))
 
 -- the info lines of each depth from 1 to this one
 unfoldable pub info_lines : Shogi → Eval → ℕ → ℕ → List ℕ

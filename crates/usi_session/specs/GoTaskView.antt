@@ -13,7 +13,7 @@ use Rattle.usi_session.specs.declared.go_request.GoRequest.{GoRequest}
 use Rattle.usi_session.specs.declared.state.HeldBestmove.{HeldBestmove}
 use Rattle.usi_session.specs.declared.state.State.{State}
 use Rattle.usi_texts.specs.Texts.{info_line}
-use Rattle.usi_session.specs.GoInfos.{listed, numbered_lines, depth_lines}
+use Rattle.usi_session.specs.GoInfos.{listed_codes, numbered_lines, depth_lines}
 use Rattle.usi_session.specs.Costs.{cost_of_command, cost_to, depth_cost, go_cost, pvs_cost}
 use Rattle.usi_session.specs.Roots.{Root, pv_roots, pvs_roots, roots_of_depths, roots_of_go, roots_of_command, roots_to}
 use Rattle.usi_session.specs.Told.{TellsEnded}
@@ -38,7 +38,7 @@ pub record GoTaskView : Type 0 where
 -- the moves listed at the current depth
 abbrev pub listed_at : GoRequest → ℕ → List ℕ
 listed_at go_request depths_done =
-    listed go_request.position go_request.eval go_request.multi_pv (depths_done + 1)
+    listed_codes go_request.position go_request.eval go_request.multi_pv (depths_done + 1)
 
 -- the info lines still to come at the current depth
 abbrev pub rest_of_depth : GoRequest → ℕ → ℕ → List ℕ

@@ -16,12 +16,12 @@ use Rattle.usi_session.specs.Walked.{Walked}
 use Rattle.usi_session.specs.WholeStream.{answer_line}
 
 -- a memo with these answers has the exact value of the root
-abbrev pub IsKnown : (Shogi → Eval → ℕ → Option Entry) → Root → Type 0
-IsKnown answers root = IsExactly (answers root.position root.eval root.depth)
+abbrev pub IsRootKnown : (Shogi → Eval → ℕ → Option Entry) → Root → Type 0
+IsRootKnown answers root = IsExactly (answers root.position root.eval root.depth)
 
 -- a memo with these answers has the exact value of each root
 abbrev pub AreKnown : (Shogi → Eval → ℕ → Option Entry) → List Root → Type 0
-AreKnown answers roots = AllByRecursion (IsKnown answers) roots
+AreKnown answers roots = AllByRecursion (IsRootKnown answers) roots
 
 -- a question does not change the memo's answers
 abbrev pub KeepsAnswers : {M : Type 0} → (M → Shogi → Eval → ℕ → Option Entry)
@@ -32,7 +32,8 @@ KeepsAnswers {M} answers called =
     → (q : Shogi) (f : Eval) (n : ℕ) → answers new q f n ≡ answers old q f n
 
 -- the memo was asked one question, and nothing else
-pub record IsAsked {M : Type 0} (called : M → Call → M → Type 0) (old new : M) : Type 0 where
+pub record AsksOneQuestion {M : Type 0} (called : M → Call → M → Type 0) (old new : M)
+    : Type 0 where
   pub position : Shogi
   pub eval : Eval
   pub depth : ℕ
@@ -48,14 +49,14 @@ IsBetweenSearches go =
 pub record PassesSearch {M : Type 0} (called : M → Call → M → Type 0) (old new : M)
     (result : Option ℕ) (after : GoTaskView) : Type 0 where
   pub made : result ≡ Some 0
-  pub asked : IsAsked called old new
+  pub asked : AsksOneQuestion called old new
   pub between : IsBetweenSearches after
 
 -- a search along a walk took no step and asked one question; the walk's next one has not begun
 pub record PassesRoot {M : Type 0} (called : M → Call → M → Type 0) (old new : M)
     (result : Option ℕ) (walk : Walked) (search : Progress) : Type 0 where
   pub made : result ≡ Some 0
-  pub asked : IsAsked called old new
+  pub asked : AsksOneQuestion called old new
   pub fresh : 0 < walk.plies → search.started ≡ false
 
 -- MultiPV is 1 before and after each of these lines
@@ -73,14 +74,14 @@ pub record IsAllKnown (answers : Shogi → Eval → ℕ → Option Entry) (sessi
       HasOneLine (rest_of_go_if session.state session.go_task).state (ahead session.input [])
 
 -- a session whose searches are all known to some answers is so afterwards
-abbrev pub StaysKnown : SessionView → SessionView → Type 0
-StaysKnown before after =
+abbrev pub StaysAllKnown : SessionView → SessionView → Type 0
+StaysAllKnown before after =
     (answers : Shogi → Eval → ℕ → Option Entry)
     → IsAllKnown answers before → IsAllKnown answers after
 
 -- known searches stay known, and fewer turns are left
 pub record TurnsOn (old new : SessionView) : Type 0 where
-  pub known : StaysKnown old new
+  pub known : StaysAllKnown old new
   pub fewer : turns new < turns old
 
 -- if the memo knows all searches, a turn that succeeds makes no step and leaves all known

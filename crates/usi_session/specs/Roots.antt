@@ -11,7 +11,7 @@ use Rattle.usi_lines.specs.CommandLines.{command_of}
 use Rattle.usi_lines.specs.Lines.{Line, Text, TooLong}
 use Rattle.usi_session.specs.declared.state.State.{State}
 use Rattle.usi_session.specs.Answer.{depth_of_go}
-use Rattle.usi_session.specs.GoInfos.{listed}
+use Rattle.usi_session.specs.GoInfos.{listed_codes}
 use Rattle.usi_session.specs.WholeStream.{answer_line}
 
 -- the root of a search: a position, an evaluation and a depth
@@ -44,7 +44,7 @@ pvs_roots position eval plies codes =
 abbrev pub depth_roots : Shogi → Eval → ℕ → ℕ → List Root
 depth_roots position eval multi_pv depth =
     cond (multi_pv == 1) (pv_roots position eval depth)
-    (pvs_roots position eval (depth - 1) (listed position eval multi_pv depth))
+    (pvs_roots position eval (depth - 1) (listed_codes position eval multi_pv depth))
 
 -- the pv searches of the next depths, `more` of them, above those done
 unfoldable pub roots_of_depths : Shogi → Eval → ℕ → ℕ → ℕ → List Root

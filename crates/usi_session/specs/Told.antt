@@ -19,13 +19,13 @@ TellsValue called old new root =
     (Probe root.position root.eval root.depth (Some (entry_of_root root)))
 
 -- some calls were made
-pub record IsCalled {M : Type 0} (called : M → Call → M → Type 0) (old new : M) : Type 0 where
+pub record HasMadeCalls {M : Type 0} (called : M → Call → M → Type 0) (old new : M) : Type 0 where
   pub calls : List Call
   pub each : AreCalled called old calls new
 
 -- the searches of these roots ended in order, each with its value told last; further calls may follow
 unfoldable pub AreTold : {M : Type 0} → (M → Call → M → Type 0) → M → List Root → M → Type 0
-AreTold called old [] new = IsCalled called old new
+AreTold called old [] new = HasMadeCalls called old new
 AreTold {M} called old (root ∷ rest) new =
     (mid : M) × (TellsValue called old mid root × AreTold called mid rest new)
 

@@ -79,13 +79,13 @@ pub record IsQuestionInRange (go_request : GoRequest) : Type 0 where
   pub multi_pv_fits : IsMultiPv go_request.multi_pv
 
 -- `next` is the first legal move after `passed`
-abbrev pub IsNext : Shogi → Option Move → Move → Type 0
-IsNext position passed next =
+abbrev pub IsNextMove : Shogi → Option Move → Move → Type 0
+IsNextMove position passed next =
     legal_above position passed ≡ code_of next ∷ legal_above position (Some next)
 
 -- the first legal move
-abbrev pub IsFirst : Shogi → Move → Type 0
-IsFirst position first = IsNext position None first
+abbrev pub IsFirstMove : Shogi → Move → Type 0
+IsFirstMove position first = IsNextMove position None first
 
 -- the search that a depth begins with
 abbrev pub first_search : GoRequest → Move → ℕ → Progress
@@ -156,7 +156,7 @@ pub record IsRankedUpTo (go_request : GoRequest) (depths_done : ℕ) (passed : O
 pub record IsRankedTo (go_request : GoRequest) (depths_done : ℕ) (root_move : Move)
     (ranks : Ranking) : Type 0 where
   pub passed : Option Move
-  pub next : IsNext go_request.position passed root_move
+  pub next : IsNextMove go_request.position passed root_move
   pub ranked : IsRankedUpTo go_request depths_done passed ranks
 
 -- all legal moves are ranked

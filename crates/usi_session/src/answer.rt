@@ -5,7 +5,7 @@ ghost use Rattle.usi_lines.specs.Seen.{meaning_of, line_of};
 ghost use Rattle.usi_lines.specs.declared.options.TheConstants.{DEPTH_MIN, DEPTH_MAX};
 ghost use Rattle.usi_lines.specs.Options.{IsInRange};
 ghost use Rattle.usi_texts.specs.Options.{AreInRange};
-ghost use Rattle.usi_session.specs.Answer.{Gives, allowed_depth, depth_of_go, answer_eval, answer_position, answer_bestmove, answer_stop, answer_ponderhit};
+ghost use Rattle.usi_session.specs.Answer.{GivesAnswer, allowed_depth, depth_of_go, answer_eval, answer_position, answer_bestmove, answer_stop, answer_ponderhit};
 ghost use Rattle.usi_session.specs.GoTaskView.{Answers, AnswersLine, BeginsGo, EndsIdle};
 
 use crate::go_request::GoRequest;
@@ -50,7 +50,7 @@ fn answer_position<A: Allocator>(
     state: &mut State,
     outcome: Result<Position, Refusal>,
 ) -> Result<(), AllocError>
-    ensures { Gives result (answer_position state.old outcome) out.old out.new state.new }
+    ensures { GivesAnswer result (answer_position state.old outcome) out.old out.new state.new }
 {
     match outcome {
         Ok(position) => {
@@ -68,7 +68,7 @@ pub fn write_or_hold<A: Allocator>(
     state: &mut State,
     bestmove: HeldBestmove,
 ) -> Result<(), AllocError>
-    ensures { Gives result (answer_bestmove state.old bestmove) out.old out.new state.new }
+    ensures { GivesAnswer result (answer_bestmove state.old bestmove) out.old out.new state.new }
 {
     match bestmove.until {
         Hold::Nothing => {
@@ -117,7 +117,7 @@ fn answer_go<A: Allocator + Copy>(
 
 /// Writes the held bestmove, if any, and holds none afterwards.
 fn answer_stop<A: Allocator>(out: &mut Vec<u8, A>, state: &mut State) -> Result<(), AllocError>
-    ensures { Gives result (answer_stop state.old state.old.held) out.old out.new state.new }
+    ensures { GivesAnswer result (answer_stop state.old state.old.held) out.old out.new state.new }
 {
     let Some(held) = &state.held else {
         return Ok(());
@@ -129,7 +129,8 @@ fn answer_stop<A: Allocator>(out: &mut Vec<u8, A>, state: &mut State) -> Result<
 
 /// Writes the held bestmove if `ponderhit` releases it.
 fn answer_ponderhit<A: Allocator>(out: &mut Vec<u8, A>, state: &mut State) -> Result<(), AllocError>
-    ensures { Gives result (answer_ponderhit state.old state.old.held) out.old out.new state.new }
+    ensures { GivesAnswer result
+        (answer_ponderhit state.old state.old.held) out.old out.new state.new }
 {
     let Some(held) = &state.held else {
         return Ok(());

@@ -1,7 +1,7 @@
 //! The current depth of a running `go`.
 
 ghost use Rattle.std.specs.Prelude.{◌<◌};
-ghost use Rattle.usi_session.specs.Walked.{IsQuestionInRange, IsFirst};
+ghost use Rattle.usi_session.specs.Walked.{IsQuestionInRange, IsFirstMove};
 
 use crate::go_request::GoRequest;
 use shogi_core::Move;
@@ -14,6 +14,6 @@ pub struct Depth {
     pub first: Move,
     pub done: u8,
     ghost range: { IsQuestionInRange go_request },
-    ghost first_is: { IsFirst go_request.position first },
+    ghost first_is: { IsFirstMove go_request.position first },
     ghost left: { done < go_request.depth },
 }

@@ -7,11 +7,11 @@ ghost use Rattle.usi_session.specs.Answer.{bestmove_of};
 ghost use Rattle.usi_session.specs.declared.state.HeldBestmove.{HeldBestmove};
 ghost use Rattle.usi_session.specs.GoInfos.{move_to_play, move_to_ponder};
 ghost use Rattle.usi_session.specs.GoTaskView.{listed_at, infos_left, infos_after, deeper_infos, is_last, is_last_of_depth, is_searching, bestmove_to, cost_of_depths, load_after_root_move, load_of, reports_of, deeper_roots, first_roots, roots_of, EndsSearchesOfGo, HasDone, HasDoneLine, IsSameButForSearch, WritesLine};
-ghost use Rattle.usi_session.specs.Known.{AreKnown, IsBetweenSearches, IsKnown, PassesRoot, PassesSearch};
+ghost use Rattle.usi_session.specs.Known.{AreKnown, IsBetweenSearches, IsRootKnown, PassesRoot, PassesSearch};
 ghost use Rattle.usi_session.specs.Phases.{IsAtPhase, first_phase, go_at, lines_done_in, lines_done_of, root_move_in, walk_in};
 ghost use Rattle.usi_session.specs.Roots.{root_of};
-ghost use Rattle.usi_session.specs.Told.{IsCalled, TellsEnded};
-ghost use Rattle.usi_session.specs.Walked.{IsQuestionInRange, IsFirst, IsRankedTo, IsRankedUpTo, IsRanked, BeginsLine, IsSearchedAlong, IsFoundOfChild, IsUnder, LeavesRoots, first_search, is_settled, child_search, cost_after, walk_cost, walk_roots};
+ghost use Rattle.usi_session.specs.Told.{HasMadeCalls, TellsEnded};
+ghost use Rattle.usi_session.specs.Walked.{IsQuestionInRange, IsFirstMove, IsRankedTo, IsRankedUpTo, IsRanked, BeginsLine, IsSearchedAlong, IsFoundOfChild, IsUnder, LeavesRoots, first_search, is_settled, child_search, cost_after, walk_cost, walk_roots};
 ghost use Rattle.usi_session.specs.WholeLines.{GrowsByLines};
 
 use crate::depth::Depth;
@@ -169,7 +169,7 @@ fn continue_search<M: Memo>(
     ensures made { IfSome result (λ f. f.steps ≤ search.old.steps + search.old.left) }
     ensures spent { IfNone result (budget + search.new.left ≤ search.old.left) }
     ensures unfinished { IfNone result (0 < search.new.left) }
-    ensures calls { IsCalled M.called memo.old memo.new }
+    ensures calls { HasMadeCalls M.called memo.old memo.new }
     ensures capacity { M.capacity memo.new ≡ M.capacity memo.old }
 {
     if leaf {
@@ -201,7 +201,7 @@ fn walk_on<M: Memo>(
     ensures told { TellsEnded M.called memo.old memo.new
         (walk_roots walk.old) (walk_roots walk.new) }
     ensures known { search.old.started ≡ false
-        → IsKnown (M.answers memo.old) (root_of walk.old.at walk.old.eval walk.old.plies)
+        → IsRootKnown (M.answers memo.old) (root_of walk.old.at walk.old.eval walk.old.plies)
         → PassesRoot M.called memo.old memo.new result walk.new search.new }
     ensures capacity { M.capacity memo.new ≡ M.capacity memo.old }
 {
@@ -308,7 +308,7 @@ impl<A: Allocator> GoTask<A> {
     #[inline(never)]
     pub fn start(alloc: A, go_request: GoRequest, first: Move) -> Result<GoTask<A>, AllocError>
         requires go_request { IsQuestionInRange go_request }
-        requires first { IsFirst go_request.position first }
+        requires first { IsFirstMove go_request.position first }
         ensures done { IfOk result (HasDone go_request 0 0) }
         ensures load { IfOk result (λ go.
             load_of go ≤ cost_of_depths go_request 0 go_request.depth) }

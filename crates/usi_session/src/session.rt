@@ -1,7 +1,7 @@
 //! One USI session.
 
 ghost use Rattle.std.specs.Prelude.{◌≡◌, ◌≤◌, ◌++◌, ℕ, List, true, false, OnOk, OnErr, IfOk, OnSome, IfSome, IfNone, None, length, take, drop, ◌<◌, ◌+◌};
-ghost use Rattle.usi_session.specs.Due.{due, state_due, load, roots_due, turns, is_pending, wants_input, new_session, new_session_under, EndsSearches, HasSpent, IsMidSearch, IsPvWhole, IsSameAfter, KeepsAll, KeepsDue, QueuesAnswer, QueuesEnd, QueuesLine};
+ghost use Rattle.usi_session.specs.Due.{due, state_due, load, roots_due, turns, is_pending, wants_input, new_session, new_session_under, EndsSearches, HasSpent, IsMidSearch, IsPvWhole, IsSameAfter, KeepsDueAndRoots, KeepsDue, QueuesAnswer, QueuesEnd, QueuesLine};
 ghost use Rattle.usi_session.specs.Known.{TakesNoStep, TurnsKnown, TurnsOn};
 ghost use Rattle.usi_session.specs.GoTaskView.{is_last, is_searching};
 ghost use Rattle.usi_session.specs.WholeStream.{replies, replies_under, state_from};
@@ -182,7 +182,7 @@ impl<A: Allocator + Copy> Session<A> {
     fn answer_next(&mut self) -> Result<(), SessionFault>
         requires idle { self.old.go_task ≡ None }
         requires pending { is_pending self.old ≡ true }
-        ensures kept { KeepsAll self.old self.new }
+        ensures kept { KeepsDueAndRoots self.old self.new }
         ensures ok { OnOk result (TurnsOn self.old self.new) }
         ensures err { OnErr result (self.new ≡ self.old) }
     {
@@ -200,7 +200,7 @@ impl<A: Allocator + Copy> Session<A> {
     fn report_next(&mut self) -> Result<(), SessionFault>
         requires whole { IsPvWhole self.old.go_task }
         requires pending { is_pending self.old ≡ true }
-        ensures kept { KeepsAll self.old self.new }
+        ensures kept { KeepsDueAndRoots self.old self.new }
         ensures ok { OnOk result (TurnsOn self.old self.new) }
         ensures err { OnErr result (self.new ≡ self.old) }
     {
