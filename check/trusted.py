@@ -16,7 +16,7 @@ COUNTED = (
     (", the replies alone on", ("usi_session.WholeStream.replies",)),
     ("; `serve` stands on", ("socket_loop.Promises.ServesTurns",)),
     (", its [whole] on", ("socket_loop.Life.Lives",)),
-    (", `stdio` [ok] on", ("usi_stdio.Stdio.IsServed",)),
+    (", `stdio` [ok] on", ("usi_stdio.Stdio.IsFrontEndServed",)),
     (" and `replay` [ok] on", ("usi_replay.Replayed.Replays",)),
 )
 BEGINS = re.compile(r"(?:(?:unfoldable|abbrev|data|record|codata|pub|inline)\s+)+«?([^\s({:»]+)")
