@@ -222,7 +222,7 @@ price_least p s code x =
     (lowest_price (piece_at p.cells x.from) (promotes p s x.from) x.promote (legal_taking p x.from s x.promote x.legal).promotion)
 
 -- nor has it where another piece comes first
-first_least : (p : Shogi) (s from code : ℕ) (x : TakesFrom p s code) → rank_on p s from ≤ rank_on p s x.from → price_with (piece_at p.cells from) (promotes p s from) ≤ price p (move_of code)
+first_least : (p : Shogi) (s from code : ℕ) (x : TakesFrom p s code) → rank_on p.cells s from ≤ rank_on p.cells s x.from → price_with (piece_at p.cells from) (promotes p s from) ≤ price p (move_of code)
 unfolding rank_on
 first_least p s from code x l =
     at_most (price_with (piece_at p.cells from) (promotes p s from)) (price_with (piece_at p.cells x.from) (promotes p s x.from)) (price p (move_of code))
@@ -230,7 +230,7 @@ first_least p s from code x l =
     (price_least p s code x)
 
 -- and one of lower code has a higher price
-first_less : (p : Shogi) (s from code : ℕ) (x : TakesFrom p s code) → from < 81 → is_own p from ≡ true → rank_on p s from ≤ rank_on p s x.from → code < code_of (taking p s from) → price_with (piece_at p.cells from) (promotes p s from) < price p (move_of code)
+first_less : (p : Shogi) (s from code : ℕ) (x : TakesFrom p s code) → from < 81 → is_own p from ≡ true → rank_on p.cells s from ≤ rank_on p.cells s x.from → code < code_of (taking p s from) → price_with (piece_at p.cells from) (promotes p s from) < price p (move_of code)
 unfolding rank_on
 first_less p s from code x hf own l lt =
     let below : code_of (Board x.from s x.promote) < code_of (taking p s from) = subst (λ (k : ℕ). k < code_of (taking p s from)) (sym x.is) lt in
@@ -251,7 +251,7 @@ first_less p s from code x hf own l lt =
 
 -- the first of the pieces that may, in that order
 pub taker_found : (p : Shogi) (s from : ℕ) → IsValid p → s < 81 → from < 81 → is_some (piece_at p.cells s) ≡ true → is_taker p s from ≡ true
-    → ((n : ℕ) → n < 81 → is_taker p s n ≡ true → rank_on p s from ≤ rank_on p s n)
+    → ((n : ℕ) → n < 81 → is_taker p s n ≡ true → rank_on p.cells s from ≤ rank_on p.cells s n)
     → Some (code_of (taking p s from)) ≡ least_valuable_attacker p s
 taker_found p s from v hs hf there l least =
     let back : move_of (code_of (taking p s from)) ≡ Some (taking p s from) = move_of-board from s (promotes p s from) hf hs in
@@ -299,8 +299,8 @@ pub none_out : (p : Shogi) (s pieces n : ℕ) → has_bit pieces n ≡ (is_own p
 none_out p s pieces n bits out = false_from_ne_true (is_taker p s n) (λ l. both_ways (has_bit pieces n) out (bits ∙ reaching p s n l))
 
 -- of those left the first is the first of all
-pub first_of_all : (p : Shogi) (s left from : ℕ) → ((n : ℕ) → n < 81 → has_bit left n ≡ false → is_taker p s n ≡ false) → ((n : ℕ) → n < 81 → has_bit left n ≡ true → rank_on p s from ≤ rank_on p s n)
-    → (n : ℕ) → n < 81 → is_taker p s n ≡ true → rank_on p s from ≤ rank_on p s n
+pub first_of_all : (p : Shogi) (s left from : ℕ) → ((n : ℕ) → n < 81 → has_bit left n ≡ false → is_taker p s n ≡ false) → ((n : ℕ) → n < 81 → has_bit left n ≡ true → rank_on p.cells s from ≤ rank_on p.cells s n)
+    → (n : ℕ) → n < 81 → is_taker p s n ≡ true → rank_on p.cells s from ≤ rank_on p.cells s n
 first_of_all p s left from all least n h l = least n h (true_from_ne_false (has_bit left n) (λ out. both_ways (is_taker p s n) (all n h out) l))
 
 -- of those that stand near or are on a line, those that reach the square are all

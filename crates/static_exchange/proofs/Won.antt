@@ -166,29 +166,8 @@ gain_first p s from v hs t =
     ∙ material_after_board p Exchange from s (promotes p s from) v t.here hs t.legal
 
 -- it leaves a valid position
-after_first : (p : Shogi) (s from : ℕ) → IsValid p → s < 81 → TakesFirst p s from → IsValid (after_code p (taking_code p s from))
+pub after_first : (p : Shogi) (s from : ℕ) → IsValid p → s < 81 → TakesFirst p s from → IsValid (after_code p (taking_code p s from))
 after_first p s from v hs t = after_valid p (taking_code p s from) v (legal_to_listed p (taking p s from) (move_of-board from s (promotes p s from) t.here hs) t.legal)
-
--- with the piece on the square
-stands_there : (p : Shogi) (s from : ℕ) → IsValid p → s < 81 → from < 81 → piece_at (after_code p (taking_code p s from)).cells s ≡ piece_moved (promotes p s from) (piece_at p.cells from)
-stands_there p s from v hs hf =
-    ap (λ (q : Shogi). piece_at q.cells s) (after_code_of p (taking p s from) (move_of-board from s (promotes p s from) hf hs))
-    ∙ get_or-set_same (set p.cells from None) s (piece_moved (promotes p s from) (piece_at p.cells from)) None (omega (arith, v.cells_fit, length-set p.cells from None))
-
--- for which no more than so much is won back
-pub back_first : (p : Shogi) (s from n : ℕ) → IsValid p → s < 81 → TakesFirst p s from → WinsAtMostOn (after_code p (taking_code p s from)) s n (taken_gain Exchange (piece_moved (promotes p s from) (piece_at p.cells from)) + PROMOTION_GAIN_MAX)
-back_first p s from n v hs t =
-    subst (λ (cell : Option Piece). WinsAtMostOn (after_code p (taking_code p s from)) s n (taken_gain Exchange cell + PROMOTION_GAIN_MAX)) (stands_there p s from v hs t.here)
-    (won_most (after_code p (taking_code p s from)) s n (after_first p s from v hs t) hs)
-
--- and nothing where the other side does not reach it
-pub untaken_back : (p : Shogi) (s from : ℕ) → IsValid p → s < 81 → TakesFirst p s from → is_attacked (moved p from s (promotes p s from)) (opponent_of p.side) s ≡ false → None ≡ least_valuable_attacker (after_code p (taking_code p s from)) s
-untaken_back p s from v hs t off =
-    let at : after_code p (taking_code p s from) ≡ after p (taking p s from) = after_code_of p (taking p s from) (move_of-board from s (promotes p s from) t.here hs) in
-    subst (λ (q : Shogi). None ≡ least_valuable_attacker q s) (sym at)
-    (taker_none (after p (taking p s from)) s (subst IsValid at (after_first p s from v hs t)) hs (λ n h some. false_from_ne_true (is_taker (after p (taking p s from)) s n) (λ l.
-    both_ways (is_attacked (moved p from s (promotes p s from)) (opponent_of p.side) s) off
-    (some_below_at 81 (is_attacked_from (moved p from s (promotes p s from)) (opponent_of p.side) s) n h (reaching (after p (taking p s from)) s n l)))))
 
 -- ---- the squares but for that of the last move
 
