@@ -1,12 +1,13 @@
 -- An exchange on one square, and each position that has it.
-use Rattle.std.proofs.Common.{◌≡◌, ◌≢◌, ◌<◌, ◌≤◌, ◌+◌, ℕ, Bool, true, false, not, Option, Some, None, refl, sym, ap, ◌∙◌, subst, arith, inl, inr, set, length, get_or-set_same, get_or-set_other, length-set}
+use Rattle.std.proofs.Common.{◌≡◌, ◌≢◌, ◌<◌, ◌≤◌, ℕ, Bool, true, false, not, Option, Some, None, refl, sym, ap, ◌∙◌, subst, arith, inl, inr, set, length, get_or-set_same, get_or-set_other, length-set}
 use Rattle.std.specs.Prelude.{◌==◌, ◌&&◌, ◌||◌, is_none, is_some}
 use Rattle.std.proofs.lemmas.Bool.{and_from, and_parts, both_ways, cases_Bool, cases_eq, eq-eqb, eqb-true, ne_eqb, false_from_ne_true}
 use Rattle.shogi_core.specs.declared.moves.Move.TheVariants.{Board}
 use Rattle.shogi_core.specs.declared.piece.Color.{Color}
 use Rattle.shogi_core.specs.declared.piece.Piece.{Piece}
-use Rattle.shogi_core.specs.Attack.{in_check, is_attacked, is_open_king, AreOccupied, IsSeenAs}
+use Rattle.shogi_core.specs.Attack.{in_check, is_attacked, is_open_king, IsSeenAs}
 use Rattle.shogi_core.specs.Bits.{has_bit, HasBits}
+use Rattle.shogi_core.specs.Codes.{code_of, move_of}
 use Rattle.shogi_core.specs.Cell.{is_piece_of, is_king, is_immobile, HasNoKing, HasNoOtherKing}
 use Rattle.shogi_core.specs.Movement.{Cells, piece_at, reaches}
 use Rattle.shogi_core.specs.Pieces.{opponent_of}
@@ -15,15 +16,15 @@ use Rattle.shogi_core.specs.Validity.{IsValid}
 use Rattle.shogi_core.specs.Zones.{may_promote}
 use Rattle.shogi_core.proofs.Below.{some_below_no}
 use Rattle.shogi_core.proofs.CodesBack.{move_of-board}
-use Rattle.shogi_core.proofs.Kings.{king_lone, no_king}
 use Rattle.shogi_moves.specs.After.{after, after_code, piece_moved}
 use Rattle.shogi_moves.specs.Destinations.{is_own, leaves_king_safe}
+use Rattle.shogi_moves.specs.Legal.{is_legal}
 use Rattle.shogi_moves.proofs.CheckInfoLaws.{is_piece_of-piece_moved, other_side, own_some}
 use Rattle.shogi_moves.proofs.DestinationLaws.{alive, legal_board, still}
-use Rattle.shogi_moves.proofs.KingLaws.{king_own}
-use Rattle.shogi_moves.proofs.LegalLaws.{after_code_of}
+use Rattle.shogi_moves.proofs.LegalLaws.{after_code_of, legal_to_listed}
 use Rattle.shogi_moves.proofs.MovedPieces.{is_king-piece_moved}
 use Rattle.shogi_moves.proofs.SeenAfter.{king_goes, king_left, moved}
+use Rattle.minimax.proofs.Valid.{after_valid}
 use Rattle.static_exchange.specs.declared.square_exchange.SquareExchange.{SquareExchange}
 use Rattle.static_exchange.specs.SquareExchanges.{HasExchange}
 use Rattle.static_exchange.specs.Takers.{is_taker, promotes, rank_on, taking, taking_code, IsFirst, TakesFirst}
@@ -77,6 +78,90 @@ pub rank_same : (a b : Cells) (s n : ℕ) → piece_at a n ≡ piece_at b n → 
 unfolding rank_on
 rank_same a b s n e = rw e refl
 
+-- ---- a piece of the side moves to a square where none of its own stands
+
+module _ (p : Shogi) (from to : ℕ) (promote : Bool) (len : length p.cells ≡ 81) (hf : from < 81) (ht : to < 81) (own : is_own p from ≡ true) (bare : is_own p to ≡ false) where
+  apart : from ≢ to
+  apart same = both_ways (is_own p to) bare (subst (λ (k : ℕ). is_own p k ≡ true) same own)
+
+  there : piece_at (moved p from to promote) to ≡ piece_moved promote (piece_at p.cells from)
+  there = get_or-set_same (set p.cells from None) to (piece_moved promote (piece_at p.cells from)) None (omega (arith, len, length-set p.cells from None))
+
+  gone : piece_at (moved p from to promote) from ≡ None
+  gone = get_or-set_other (set p.cells from None) to from (piece_moved promote (piece_at p.cells from)) None apart ∙ get_or-set_same p.cells from None None (omega (arith, len))
+
+  other : (n : ℕ) → n ≢ to → n ≢ from → piece_at (moved p from to promote) n ≡ piece_at p.cells n
+  other n off away = get_or-set_other (set p.cells from None) to n (piece_moved promote (piece_at p.cells from)) None off ∙ get_or-set_other p.cells from n None None away
+
+  own_moved : is_piece_of p.side (piece_moved promote (piece_at p.cells from)) ≡ true
+  own_moved = is_piece_of-piece_moved p.side promote (piece_at p.cells from) ∙ own
+
+  -- the other side's pieces stay, but for one that is taken
+  foes_then : (n : ℕ) → (is_piece_of (opponent_of p.side) (piece_at p.cells n) && not (n == to)) ≡ is_piece_of (opponent_of p.side) (piece_at (moved p from to promote) n)
+  foes_then n = elim (cases_eq n to) [
+    | inl same ↦ grind (arith, eq-eqb n to same, there, other_side p.side (piece_moved promote (piece_at p.cells from)) own_moved)
+    | inr off ↦ elim (cases_eq n from) [
+      | inl same ↦ grind (arith, gone, other_side p.side (piece_at p.cells from) own)
+      | inr away ↦ grind (arith, other n off away, ne_eqb n to off)
+    ]
+  ]
+
+  foe_same : (n : ℕ) → (is_piece_of (opponent_of p.side) (piece_at p.cells n) && not (n == to)) ≡ true → piece_at (moved p from to promote) n ≡ piece_at p.cells n
+  foe_same n on = elim (cases_eq n to) [
+    | inl same ↦ grind (arith, eq-eqb n to same)
+    | inr off ↦ elim (cases_eq n from) [
+      | inl same ↦ grind (arith, other_side p.side (piece_at p.cells from) own)
+      | inr away ↦ other n off away
+    ]
+  ]
+
+  -- and the side's own, but for that which moves
+  owns_then : (n : ℕ) → (is_own p n && not (n == from)) ≡ (is_piece_of p.side (piece_at (moved p from to promote) n) && not (n == to))
+  owns_then n = elim (cases_eq n to) [
+    | inl same ↦ grind (arith, bare, eq-eqb n to same)
+    | inr off ↦ elim (cases_eq n from) [
+      | inl same ↦ grind (arith, gone, eq-eqb n from same)
+      | inr away ↦ grind (arith, other n off away, ne_eqb n to off, ne_eqb n from away)
+    ]
+  ]
+
+  own_same : (n : ℕ) → (is_own p n && not (n == from)) ≡ true → piece_at (moved p from to promote) n ≡ piece_at p.cells n
+  own_same n on = elim (cases_eq n to) [
+    | inl same ↦ grind (arith, bare)
+    | inr off ↦ elim (cases_eq n from) [
+      | inl same ↦ grind (arith, eq-eqb n from same)
+      | inr away ↦ other n off away
+    ]
+  ]
+
+  -- the exchange there is then the other side's, with these pieces
+  pub exchange_after : IsValid (after p (Board from to promote)) → (y : SquareExchange) → y.square ≡ to → y.stands ≡ piece_moved promote (piece_at p.cells from) → y.side ≡ opponent_of p.side
+      → ((n : ℕ) → n < 81 → has_bit y.mine.bits n ≡ (is_piece_of (opponent_of p.side) (piece_at p.cells n) && not (n == to))) → ((n : ℕ) → n < 81 → has_bit y.theirs.bits n ≡ (is_own p n && not (n == from)))
+      → ((n : ℕ) → n < 81 → has_bit y.mine.bits n ≡ true → piece_at p.cells n ≡ piece_at y.board.now n) → ((n : ℕ) → n < 81 → has_bit y.theirs.bits n ≡ true → piece_at p.cells n ≡ piece_at y.board.now n)
+      → HasExchange (after p (Board from to promote)) y
+  exchange_after v y s st sd m t sm th = record {
+    valid = v;
+    side = sd;
+    stands = ap (piece_at (moved p from to promote)) s ∙ (there ∙ sym st);
+    foe = rw (opponent_twice p.side, st) own_moved;
+    mine = λ n h. m n h ∙ foes_then n;
+    theirs = λ n h. t n h ∙ rw (opponent_twice p.side, s) (owns_then n);
+    same_mine = λ n h on. foe_same n (sym (m n h) ∙ on) ∙ sm n h on;
+    same_theirs = λ n h on. own_same n (sym (t n h) ∙ on) ∙ th n h on;
+  }
+
+-- by a legal move
+pub exchange_after_legal : (p : Shogi) (from to : ℕ) (promote : Bool) → IsValid p → from < 81 → to < 81 → is_legal p (Board from to promote) ≡ true → (y : SquareExchange) → y.board.now ≡ p.cells → y.square ≡ to → y.stands ≡ piece_moved promote (piece_at p.cells from) → y.side ≡ opponent_of p.side
+    → ((n : ℕ) → n < 81 → has_bit y.mine.bits n ≡ (is_piece_of (opponent_of p.side) (piece_at p.cells n) && not (n == to))) → ((n : ℕ) → n < 81 → has_bit y.theirs.bits n ≡ (is_own p n && not (n == from)))
+    → HasExchange (after p (Board from to promote)) y
+exchange_after_legal p from to promote v hf ht l y b s st sd m t =
+    let back : move_of (code_of (Board from to promote)) ≡ Some (Board from to promote) = move_of-board from to promote hf ht in
+    let takes = legal_taking p from to promote l in
+    let valid : IsValid (after p (Board from to promote)) = subst IsValid (after_code_of p (Board from to promote) back) (after_valid p (code_of (Board from to promote)) v (legal_to_listed p (Board from to promote) back l)) in
+    exchange_after p from to promote v.cells_fit hf ht takes.own takes.free valid y s st sd m t (λ n h on. ap (λ (cells : Cells). piece_at cells n) (sym b)) (λ n h on. ap (λ (cells : Cells). piece_at cells n) (sym b))
+
+-- ---- an exchange that a position has
+
 module _ (p : Shogi) (x : SquareExchange) (hs : x.square < 81) (e : HasExchange p x) where
   foe_there : is_piece_of (opponent_of p.side) (piece_at p.cells x.square) ≡ true
   foe_there = ap (is_piece_of (opponent_of p.side)) e.stands ∙ e.foe
@@ -110,52 +195,26 @@ module _ (p : Shogi) (x : SquareExchange) (hs : x.square < 81) (e : HasExchange 
       and_true : (b : Bool) → (b && true) ≡ b
       and_true true = refl
       and_true false = refl
+
       and_false : (b : Bool) → (b && false) ≡ false
       and_false true = refl
       and_false false = refl
 
   -- a piece of the side moves to the square
   module _ (from : ℕ) (promote : Bool) (hf : from < 81) (own : is_own p from ≡ true) where
-    apart : from ≢ x.square
-    apart same = both_ways (is_own p x.square) bare (subst (λ (k : ℕ). is_own p k ≡ true) same own)
-
-    there : piece_at (moved p from x.square promote) x.square ≡ piece_moved promote (piece_at p.cells from)
-    there = get_or-set_same (set p.cells from None) x.square (piece_moved promote (piece_at p.cells from)) None (omega (arith, e.valid.cells_fit, length-set p.cells from None))
-
-    gone : piece_at (moved p from x.square promote) from ≡ None
-    gone = get_or-set_other (set p.cells from None) x.square from (piece_moved promote (piece_at p.cells from)) None apart ∙ get_or-set_same p.cells from None None (omega (arith, e.valid.cells_fit))
-
-    other : (n : ℕ) → n ≢ x.square → n ≢ from → piece_at (moved p from x.square promote) n ≡ piece_at p.cells n
-    other n off away = get_or-set_other (set p.cells from None) x.square n (piece_moved promote (piece_at p.cells from)) None off ∙ get_or-set_other p.cells from n None None away
-
-    own_moved : is_piece_of p.side (piece_moved promote (piece_at p.cells from)) ≡ true
-    own_moved = is_piece_of-piece_moved p.side promote (piece_at p.cells from) ∙ own
-
     attackers_left : (n : ℕ) → n < 81 → has_bit x.theirs.bits n ≡ is_piece_of (opponent_of p.side) (piece_at (moved p from x.square promote) n)
-    attackers_left n h = elim (cases_eq n x.square) [
-      | inl same ↦ grind (arith, e.theirs n h, there, other_side p.side (piece_moved promote (piece_at p.cells from)) own_moved)
-      | inr off ↦ elim (cases_eq n from) [
-        | inl same ↦ grind (arith, e.theirs n h, gone, other_side p.side (piece_at p.cells from) own)
-        | inr away ↦ grind (arith, e.theirs n h, other n off away, ne_eqb n x.square off)
-      ]
-    ]
+    attackers_left n h = e.theirs n h ∙ foes_then p from x.square promote e.valid.cells_fit hf hs own bare n
 
     same_left : (n : ℕ) → n < 81 → has_bit x.theirs.bits n ≡ true → piece_at (moved p from x.square promote) n ≡ piece_at x.board.now n
-    same_left n h on = elim (cases_eq n x.square) [
-      | inl same ↦ grind (arith, e.theirs n h)
-      | inr off ↦ elim (cases_eq n from) [
-        | inl same ↦ grind (arith, e.theirs n h, other_side p.side (piece_at p.cells from) own)
-        | inr away ↦ other n off away ∙ e.same_theirs n h on
-      ]
-    ]
+    same_left n h on = foe_same p from x.square promote e.valid.cells_fit hf hs own bare n (sym (e.theirs n h) ∙ on) ∙ e.same_theirs n h on
 
     module _ (occ left : ℕ) (o : (n : ℕ) → has_bit occ n ≡ ((has_bit x.mine.bits n || has_bit x.theirs.bits n) || n == x.square)) (l : (n : ℕ) → has_bit left n ≡ (has_bit occ n && not (n == from))) where
       pieces_left : (n : ℕ) → n < 81 → has_bit left n ≡ not (is_none (piece_at (moved p from x.square promote) n))
       pieces_left n h = elim (cases_eq n x.square) [
-        | inl same ↦ grind (arith, l n, o n, there, ne_eqb n from (λ at. apart (sym at ∙ same)), own_some p.side (piece_moved promote (piece_at p.cells from)) own_moved)
+        | inl same ↦ grind (arith, l n, o n, there p from x.square promote e.valid.cells_fit hf hs own bare, ne_eqb n from (λ at. apart p from x.square promote e.valid.cells_fit hf hs own bare (sym at ∙ same)), own_some p.side (piece_moved promote (piece_at p.cells from)) (own_moved p from x.square promote e.valid.cells_fit hf hs own bare))
         | inr off ↦ elim (cases_eq n from) [
-          | inl same ↦ grind (arith, l n, gone)
-          | inr away ↦ grind (arith, l n, occupied_is occ o n h, other n off away, ne_eqb n from away)
+          | inl same ↦ grind (arith, l n, gone p from x.square promote e.valid.cells_fit hf hs own bare)
+          | inr away ↦ grind (arith, l n, occupied_is occ o n h, other p from x.square promote e.valid.cells_fit hf hs own bare n off away, ne_eqb n from away)
         ]
       ]
 
@@ -169,10 +228,10 @@ module _ (p : Shogi) (x : SquareExchange) (hs : x.square < 81) (e : HasExchange 
       where
         nowhere : (k : ℕ) → k < 81 → is_king p.side (piece_at (moved p from x.square promote) k) ≡ false
         nowhere k h = elim (cases_eq k x.square) [
-          | inl same ↦ ap (λ (n : ℕ). is_king p.side (piece_at (moved p from x.square promote) n)) same ∙ (ap (is_king p.side) there ∙ (is_king-piece_moved p.side promote (piece_at p.cells from) ∙ none from hf))
+          | inl same ↦ ap (λ (n : ℕ). is_king p.side (piece_at (moved p from x.square promote) n)) same ∙ (ap (is_king p.side) (there p from x.square promote e.valid.cells_fit hf hs own bare) ∙ (is_king-piece_moved p.side promote (piece_at p.cells from) ∙ none from hf))
           | inr off ↦ elim (cases_eq k from) [
-            | inl same ↦ ap (λ (n : ℕ). is_king p.side (piece_at (moved p from x.square promote) n)) same ∙ (ap (is_king p.side) gone ∙ no_king_none p.side)
-            | inr away ↦ ap (is_king p.side) (other k off away) ∙ none k h
+            | inl same ↦ ap (λ (n : ℕ). is_king p.side (piece_at (moved p from x.square promote) n)) same ∙ (ap (is_king p.side) (gone p from x.square promote e.valid.cells_fit hf hs own bare) ∙ no_king_none p.side)
+            | inr away ↦ ap (is_king p.side) (other p from x.square promote e.valid.cells_fit hf hs own bare k off away) ∙ none k h
           ]
         ]
 
@@ -216,30 +275,8 @@ module _ (p : Shogi) (x : SquareExchange) (hs : x.square < 81) (e : HasExchange 
         → y.mine.bits ≡ x.theirs.bits → ((n : ℕ) → has_bit y.theirs.bits n ≡ (has_bit x.mine.bits n && not (n == from))) → HasExchange (after_code p (taking_code p x.square from)) y
     after_exchange y b s st sd m th =
         let at : after_code p (taking_code p x.square from) ≡ after p (taking p x.square from) = after_code_of p (taking p x.square from) (move_of-board from x.square (promotes p x.square from) t.here hs) in
-        subst (λ (q : Shogi). HasExchange q y) (sym at) (record {
-          valid = subst IsValid at (after_first p x.square from e.valid hs t);
-          side = sd;
-          stands = ap (piece_at (moved p from x.square (promotes p x.square from))) s ∙ (there from (promotes p x.square from) t.here first_own ∙ sym st);
-          foe = rw (opponent_twice p.side, st) (own_moved from (promotes p x.square from) t.here first_own);
-          mine = λ n h. rw m (attackers_left from (promotes p x.square from) t.here first_own n h);
-          theirs = λ n h. th n ∙ rw (opponent_twice p.side, s) (theirs_then n h);
-          same_mine = λ n h on. rw b (same_left from (promotes p x.square from) t.here first_own n h (rw m at on));
-          same_theirs = λ n h on. rw b (then_same n h (sym (th n) ∙ on));
-        })
-      where
-        theirs_then : (n : ℕ) → n < 81 → (has_bit x.mine.bits n && not (n == from)) ≡ (is_piece_of p.side (piece_at (moved p from x.square (promotes p x.square from)) n) && not (n == x.square))
-        theirs_then n h = elim (cases_eq n x.square) [
-          | inl same ↦ grind (arith, e.mine n h, bare, eq-eqb n x.square same)
-          | inr off ↦ elim (cases_eq n from) [
-            | inl same ↦ grind (arith, gone from (promotes p x.square from) t.here first_own, eq-eqb n from same)
-            | inr away ↦ grind (arith, e.mine n h, other from (promotes p x.square from) t.here first_own n off away, ne_eqb n x.square off, ne_eqb n from away)
-          ]
-        ]
-        then_same : (n : ℕ) → n < 81 → (has_bit x.mine.bits n && not (n == from)) ≡ true → piece_at (moved p from x.square (promotes p x.square from)) n ≡ piece_at x.board.now n
-        then_same n h on = elim (cases_eq n x.square) [
-          | inl same ↦ grind (arith, e.mine n h, bare)
-          | inr off ↦ elim (cases_eq n from) [
-            | inl same ↦ grind (arith, eq-eqb n from same)
-            | inr away ↦ other from (promotes p x.square from) t.here first_own n off away ∙ e.same_mine n h (and_parts _ _ on).0
-          ]
-        ]
+        subst (λ (q : Shogi). HasExchange q y) (sym at)
+        (exchange_after p from x.square (promotes p x.square from) e.valid.cells_fit t.here hs first_own bare (subst IsValid at (after_first p x.square from e.valid hs t)) y s st sd
+        (λ n h. ap (λ (k : ℕ). has_bit k n) m ∙ e.theirs n h) (λ n h. th n ∙ ap (λ (v : Bool). v && not (n == from)) (e.mine n h))
+        (λ n h on. e.same_theirs n h (sym (ap (λ (k : ℕ). has_bit k n) m) ∙ on) ∙ ap (λ (cells : Cells). piece_at cells n) (sym b))
+        (λ n h on. e.same_mine n h (and_parts _ _ (sym (th n) ∙ on)).0 ∙ ap (λ (cells : Cells). piece_at cells n) (sym b)))

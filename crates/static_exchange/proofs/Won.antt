@@ -1,22 +1,18 @@
 -- What is won by an exchange on one square, and on the best of them.
-use Rattle.std.proofs.Common.{◌≡◌, ◌<◌, ◌≤◌, ◌+◌, ◌-◌, ℕ, zero, suc, set, get_or-set_same, length-set, ℤ, pos, ◌+ℤ◌, ◌-ℤ◌, ◌≤ℤ◌, Bool, true, false, not, Option, Some, None, refl, sym, ap, ◌∙◌, subst, arith, inl, inr}
+use Rattle.std.proofs.Common.{◌≡◌, ◌<◌, ◌≤◌, ◌+◌, ◌-◌, ℕ, zero, suc, ℤ, pos, ◌+ℤ◌, ◌-ℤ◌, ◌≤ℤ◌, Bool, true, false, not, Option, Some, None, refl, sym, ap, ◌∙◌, subst, arith, inl, inr}
 use Rattle.std.specs.Prelude.{◌&&◌, ◌==◌}
 use Rattle.std.specs.Int.{int_max}
-use Rattle.std.proofs.lemmas.Bool.{both_ways, cases_eq, cases_lt, false_from_ne_true}
+use Rattle.std.proofs.lemmas.Bool.{cases_eq, cases_lt}
 use Rattle.std.proofs.lemmas.Int.{ints, clamps}
 use Rattle.shogi_core.specs.declared.moves.Move.TheVariants.{Board}
 use Rattle.shogi_core.specs.declared.piece.Piece.{Piece}
 use Rattle.shogi_core.specs.Bits.{has_bit}
 use Rattle.shogi_core.specs.Movement.{piece_at}
-use Rattle.shogi_core.specs.Attack.{is_attacked, is_attacked_from}
-use Rattle.shogi_core.specs.Pieces.{opponent_of}
 use Rattle.shogi_core.specs.Position.{Shogi}
 use Rattle.shogi_core.specs.Validity.{IsValid}
-use Rattle.shogi_core.proofs.Below.{some_below_at}
 use Rattle.shogi_core.proofs.CodesBack.{move_of-board}
-use Rattle.shogi_moves.specs.After.{after, after_code, piece_moved}
+use Rattle.shogi_moves.specs.After.{after, after_code}
 use Rattle.shogi_moves.proofs.LegalLaws.{after_code_at, after_code_of, legal_to_listed}
-use Rattle.shogi_moves.proofs.SeenAfter.{moved}
 use Rattle.shogi_eval.specs.declared.eval.Eval.TheVariants.{Exchange}
 use Rattle.shogi_eval.specs.declared.gain.TheConstants.{PROMOTION_GAIN_MAX}
 use Rattle.shogi_eval.specs.Exchange.{best_settled, captures_max, most_settled, settled, least_valuable_attacker}
@@ -26,8 +22,8 @@ use Rattle.shogi_eval.proofs.RoleGains as roles
 use Rattle.minimax.proofs.Settling.{best_least, settled_least}
 use Rattle.minimax.proofs.Valid.{after_valid}
 use Rattle.static_exchange.specs.Reprisals.{IsGain, IsWon, IsWonAtLeast, IsWonOn, WinsAtLeastOn, WinsAtMostOn, WinsAtMostOff}
-use Rattle.static_exchange.specs.Takers.{is_taker, promotes, taking, taking_code, NoneTakenOff, TakesFirst}
-use Rattle.static_exchange.proofs.Cheapest.{TakesFrom, left_or_passed, reaching, taker_none, taker_takes}
+use Rattle.static_exchange.specs.Takers.{promotes, taking, taking_code, NoneTakenOff, TakesFirst}
+use Rattle.static_exchange.proofs.Cheapest.{TakesFrom, left_or_passed, taker_takes}
 use Rattle.static_exchange.proofs.Takings.{settled_stands, settled_takes, settled_zero}
 
 -- what is won there is no more

@@ -3,6 +3,9 @@
 ghost use Rattle.std.specs.Prelude.{◌≡◌, ◌≢◌, ◌≤◌, ◌<◌, true};
 ghost use Rattle.shogi_core.specs.Bits.{has_bit};
 ghost use Rattle.shogi_core.specs.Position.{Shogi};
+ghost use Rattle.shogi_core.specs.declared.moves.Move.TheVariants as Move;
+ghost use Rattle.shogi_moves.specs.After.{after};
+ghost use Rattle.shogi_moves.specs.Legal.{is_legal};
 ghost use Rattle.shogi_eval.specs.Exchange.{captures_max};
 ghost use Rattle.static_exchange.specs.Reprisals.{IsWon, IsWonAtLeast, WinsAtLeastOn, WinsAtMostOn};
 ghost use Rattle.static_exchange.specs.SquareExchanges.{HasExchange};
@@ -10,8 +13,9 @@ ghost use Rattle.static_exchange.specs.SquareExchanges.{HasExchange};
 use crate::square_exchange::SquareExchange;
 use crate::takers::targets;
 use shogi_core::bits::{cleared, lowest};
-use shogi_core::{Position, Square, Squares};
+use shogi_core::{Move, Position, Square, Squares};
 use shogi_eval::{Eval, taken_gain};
+use shogi_moves::apply;
 
 /// How many captures an exchange has at most: each takes a piece off the board.
 pub const CAPTURES_MAX: u8 = 40;
@@ -30,7 +34,9 @@ fn won_on(x: &SquareExchange<'_>, n: u8, floor: u32, enough: u32) -> u32
     if n == 0 {
         return 0;
     }
-    let Some(from) = x.first_taker() else { return 0 };
+    let Some(from) = x.first_taker() else {
+        return 0
+    };
     let gain = x.gain_by(from);
     if gain <= floor {
         return gain;
@@ -45,6 +51,27 @@ fn won_on(x: &SquareExchange<'_>, n: u8, floor: u32, enough: u32) -> u32
 }
 
 /// The same of an exchange of any length, or the floor where that is no less.
+fn more_by(x: &SquareExchange<'_>, floor: u32, enough: u32) -> u32
+    requires window { floor < enough }
+    requires range { floor ≤ 3100 }
+    ensures least { floor ≤ result }
+    ensures most { result < enough → (p : Shogi) → HasExchange p x.now
+        → WinsAtMostOn p x.now.square captures_max result }
+    ensures won { (p : Shogi) → HasExchange p x.now → IsWonAtLeast p floor → IsWonAtLeast p result }
+    ensures range { result ≤ 3100 }
+{
+    x.square.reveal_invariant();
+    if x.most() <= floor {
+        return floor;
+    }
+    let won = won_on(x, CAPTURES_MAX, floor, enough);
+    if won <= floor {
+        return floor;
+    }
+    won
+}
+
+/// The same of that on the square, where the side to move wins the floor.
 fn more_on(p: &Position, square: Square, floor: u32, enough: u32) -> u32
     requires window { floor < enough }
     requires range { floor ≤ 3100 }
@@ -54,18 +81,10 @@ fn more_on(p: &Position, square: Square, floor: u32, enough: u32) -> u32
     ensures won { IsWonAtLeast p.now result }
     ensures range { result ≤ 3100 }
 {
-    square.reveal_invariant();
-    let Some(exchange) = SquareExchange::of(p, square) else {
-        return floor
-    };
-    if exchange.most() <= floor {
-        return floor;
+    match SquareExchange::of(p, square) {
+        None => floor,
+        Some(exchange) => more_by(&exchange, floor, enough),
     }
-    let won = won_on(&exchange, CAPTURES_MAX, floor, enough);
-    if won <= floor {
-        return floor;
-    }
-    won
 }
 
 /// One of these squares, that of the piece whose capture gains most.
@@ -110,19 +129,22 @@ fn won_elsewhere(p: &Position, last: Square, floor: u32, enough: u32) -> u32
     most
 }
 
-/// What the side to move wins, in points, by its best exchange on one square: exactly where that is
-/// less than `enough`, and else a number from `enough` on. The square of the last move is asked
-/// first.
-pub fn best_won(p: &Position, last: Square, enough: u32) -> u32
-    ensures below { result < enough → IsWon p.now result }
-    ensures enough { enough ≤ result → IsWonAtLeast p.now enough }
+/// What the other side wins, in points, by its best exchange on one square after a legal move on the
+/// board: exactly where that is less than `enough`, and else a number from `enough` on. The square
+/// where the move ends is asked first, with no position made.
+pub fn best_won(p: &Position, from: Square, to: Square, promote: bool, enough: u32) -> u32
+    requires { is_legal p.now (Move.Board from to promote) ≡ true }
+    ensures below { result < enough → IsWon (after p.now (Move.Board from to promote)) result }
+    ensures enough { enough ≤ result
+        → IsWonAtLeast (after p.now (Move.Board from to promote)) enough }
 {
     if enough == 0 {
         return 0;
     }
-    let there = more_on(p, last, 0, enough);
+    let there = more_by(&SquareExchange::after_move(p, from, to, promote), 0, enough);
     if there >= enough {
         return there;
     }
-    won_elsewhere(p, last, there, enough)
+    let next = apply(p, Move::Board { from, to, promote });
+    won_elsewhere(&next, to, there, enough)
 }

@@ -8,7 +8,6 @@ ghost use Rattle.static_exchange.specs.Reprisals.{IsReprisal, IsEnough};
 
 use crate::exchanges::best_won;
 use shogi_core::{Move, Position};
-use shogi_moves::apply;
 
 /// Whether the move takes nothing and does not promote.
 pub fn is_quiet(p: &Position, m: &Move) -> bool
@@ -32,5 +31,8 @@ pub fn best_exchange(p: &Position, m: Move, enough: u32) -> u32
     if is_quiet(p, &m) {
         return 0;
     }
-    best_won(&apply(p, m), m.to(), enough)
+    match m {
+        Move::Board { from, to, promote } => best_won(p, from, to, promote, enough),
+        Move::Drop { .. } => 0,
+    }
 }

@@ -4,8 +4,10 @@ ghost use Rattle.std.specs.Prelude.{◌≡◌, ◌≢◌, ◌≤◌, ◌<◌, �
 ghost use Rattle.shogi_core.specs.Bits.{HasBits, has_bit};
 ghost use Rattle.shogi_core.specs.Movement.{piece_at, reaches};
 ghost use Rattle.shogi_core.specs.Position.{Shogi};
-ghost use Rattle.shogi_moves.specs.After.{after_code};
+ghost use Rattle.shogi_core.specs.declared.moves.Move.TheVariants as Move;
+ghost use Rattle.shogi_moves.specs.After.{after, after_code};
 ghost use Rattle.shogi_moves.specs.Destinations.{is_own};
+ghost use Rattle.shogi_moves.specs.Legal.{is_legal};
 ghost use Rattle.shogi_eval.specs.Exchange.{least_valuable_attacker};
 ghost use Rattle.static_exchange.specs.Reprisals.{IsGain, WinsAtMostOn};
 ghost use Rattle.static_exchange.specs.SquareExchanges.{HasExchange};
@@ -55,6 +57,28 @@ impl SquareExchange<'_> {
         })
     }
 
+    /// The exchange on the square where a legal move on the board ends, once it is made.
+    pub fn after_move(p: &Position, from: Square, to: Square, promote: bool) -> SquareExchange<'_>
+        requires { is_legal p.now (Move.Board from to promote) ≡ true }
+        ensures square { result.square ≡ to }
+        ensures exchange { HasExchange (after p.now (Move.Board from to promote)) result }
+    {
+        p.reveal_invariant();
+        from.reveal_invariant();
+        to.reveal_invariant();
+        let board = p.as_board();
+        let side = p.side();
+        let other = side.opponent();
+        SquareExchange {
+            board,
+            square: to,
+            stands: piece_moved(board.at(from), promote),
+            side: other,
+            mine: board.own(other).except(to),
+            theirs: board.own(side).except(from),
+        }
+    }
+
     /// The squares that are not empty.
     fn occupied(&self) -> Squares
         ensures { (n : ℕ) → has_bit result.bits n
@@ -69,7 +93,8 @@ impl SquareExchange<'_> {
             → HasBits result.bits (λ n. is_own p n && reaches p.cells n self.now.square) }
     {
         self.square.reveal_invariant();
-        self.board.reachers_among(self.square, self.mine, self.occupied())
+        self.board
+            .reachers_among(self.square, self.mine, self.occupied())
     }
 
     /// Whether a piece of the side that reaches the square legally takes there: its king, or the

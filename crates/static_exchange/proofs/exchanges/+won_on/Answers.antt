@@ -1,4 +1,4 @@
-use Rattle.std.proofs.Common.{◌≡◌, ◌<◌, ◌-◌, ℕ, refl, sym, subst, arith}
+use Rattle.std.proofs.Common.{◌<◌, ◌-◌, ℕ, refl, sym, subst, arith}
 use Rattle.shogi_core.specs.Position.{Shogi}
 use Rattle.shogi_moves.specs.After.{after_code}
 use Rattle.static_exchange.specs.Reprisals.{WinsAtLeastOn, WinsAtMostOn}
