@@ -20,7 +20,7 @@ use shogi_moves::apply;
 /// How many captures an exchange has at most: each takes a piece off the board.
 pub const CAPTURES_MAX: u8 = 40;
 
-/// What the side to move wins, in points, once the square is settled, by so many captures at most:
+/// What the side wins, in points, once the square is settled, by so many captures at most:
 /// it stands, or takes there with its cheapest piece and lets the other side settle it. Exactly
 /// where that is more than the floor and less than `enough`; else a number on the same side.
 fn won_on(x: &SquareExchange<'_>, n: u8, floor: u32, enough: u32) -> u32
@@ -50,7 +50,7 @@ fn won_on(x: &SquareExchange<'_>, n: u8, floor: u32, enough: u32) -> u32
     gain.saturating_sub(back)
 }
 
-/// The same of an exchange of any length, or the floor where that is no less.
+/// What the side wins by an exchange of any length, or the floor if that is no less.
 fn more_by(x: &SquareExchange<'_>, floor: u32, enough: u32) -> u32
     requires window { floor < enough }
     requires range { floor ≤ 3100 }
@@ -71,7 +71,8 @@ fn more_by(x: &SquareExchange<'_>, floor: u32, enough: u32) -> u32
     won
 }
 
-/// The same of that on the square, where the side to move wins the floor.
+/// What the side to move wins by the exchange on the square, or the floor if that is no less: it wins
+/// that floor anyway.
 fn more_on(p: &Position, square: Square, floor: u32, enough: u32) -> u32
     requires window { floor < enough }
     requires range { floor ≤ 3100 }
