@@ -33,7 +33,7 @@ move_unmates p escapes code legal leaves = record {
   unchecked = λ none. ap (in_check (after_code p code).cells) (side_after p code legal) ∙ leaves.unchecked none;
 }
 
--- the same of each move that is skipped
+-- each move that is skipped obeys this law
 pub skipped_each : (f g : ℕ → Type 0) (codes left : List ℕ) → ((c : ℕ) → f c → g c) → IsSkipped f codes left → IsSkipped g codes left
 skipped_each f g [] left h s = s
 skipped_each f g (c ∷ codes) left h s = elim s [ inl same ↦ inl same | inr more ↦ inr (h c more.0, skipped_each f g codes left h more.1) ]
@@ -58,7 +58,7 @@ pub drops_skipped : (p : Shogi) (kind : Kind) (squares escapes first : ℕ) (cod
 drops_skipped p kind squares escapes first codes left s =
     skipped_each (IsGuaranteedDrop p kind squares escapes first) (IsUnmating p escapes) codes left (λ c g. move_unmates p escapes c g.legal g.leaves) s
 
--- the same, told of another front of the list
+-- the law for another front of the list
 pub skipped_of : (f : ℕ → Type 0) (codes same left : List ℕ) → same ≡ codes → IsSkipped f codes left → IsSkipped f same left
 skipped_of f codes same left e s = subst (λ (xs : List ℕ). IsSkipped f xs left) (sym e) s
 

@@ -111,7 +111,7 @@ wins (suc j) p e m =
     let at : suc (suc (2 * j + 1)) ≡ 2 * suc j + 1 = omega arith in
     rw (sym at) (cut_at p e (suc (2 * j + 1)) key.0 MATE key.1 (omega (arith, ints, lost, worth_later p e (suc (2 * j + 1)) key.0 (omega arith))))
 
--- the same by the number of moves
+-- the law by the number of moves
 pub mate_wins : (p : Shogi) (n : ℕ) (e : Eval) → mates p n ≡ true → MATE ≤ℤ value p e (2 * n - 1)
 mate_wins p zero e m = absurd (true≢false (sym m ∙ mates_none p 0 refl))
 mate_wins p (suc k) e m = let at : 2 * suc k - 1 ≡ 2 * k + 1 = omega arith in rw at (wins k p e m)

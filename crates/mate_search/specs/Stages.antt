@@ -23,7 +23,7 @@ stage_left p (Drops sweep) = drops_left p sweep
 abbrev pub ordered_codes : Shogi → List ℕ
 ordered_codes p = matching_from p true 0 ++ matching_from p false 0
 
--- after the move the other side has a legal one and, where no escapes are given, is in no check
+-- after the move the other side has a legal reply and, if no escapes are given, is not in check
 pub record IsUnmating (p : Shogi) (escapes code : ℕ) : Type 0 where
   pub answered : legal_codes (after_code p code) ≢ []
   pub unchecked : escapes ≡ 0

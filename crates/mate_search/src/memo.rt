@@ -102,7 +102,7 @@ pub struct Memo<A: Allocator> {
 }
 
 impl<A: Allocator + Copy> Memo<A> {
-    /// An empty memo. Where memory runs out it keeps nothing, and the same is found more slowly.
+    /// An empty memo. If memory runs out, it keeps nothing, and searches find the same more slowly.
     pub fn new(alloc: A) -> Memo<A>
         ensures most { length result.places.items ≤ MEMO_MAX }
     {

@@ -35,14 +35,14 @@ use Rattle.static_exchange.specs.Takers.{is_taker, promotes, rank_on, taking}
 
 -- ---- what a left fold finds
 
--- none, where none takes
+-- if no move on the list takes there, the fold finds none
 fold_none : (p : Shogi) (s : ℕ) (best : Option ℕ) (codes : List ℕ) → ((n : ℕ) → is_in n codes ≡ true → takes_on p s (move_of n) ≡ false) → cheapest p s best codes ≡ best
 fold_none p s best [] h = refl
 fold_none p s best (c ∷ cs) h =
     let off : takes_on p s (move_of c) ≡ false = h c (or_left _ _ (eq-eqb c c refl)) in
     ap (λ (b : Bool). cheapest p s (cond b (cheaper p best c) best) cs) off ∙ fold_none p s best cs (λ n i. h n (or_right (n == c) (is_in n cs) i))
 
--- what was found stays, where none that takes has a lower price
+-- the fold keeps what it found if no later move that takes has a lower price
 fold_keeps : (p : Shogi) (s m : ℕ) (codes : List ℕ) → ((n : ℕ) → is_in n codes ≡ true → takes_on p s (move_of n) ≡ true → price p (move_of m) ≤ price p (move_of n)) → cheapest p s (Some m) codes ≡ Some m
 fold_keeps p s m [] h = refl
 fold_keeps p s m (c ∷ cs) h =
@@ -53,7 +53,7 @@ fold_keeps p s m (c ∷ cs) h =
     (λ _. rest))
     (λ _. rest)
 
--- a move is dearer than this one, if there is one
+-- if a move was found, it costs more than this move
 abbrev IsDearer : Shogi → ℕ → Option ℕ → Type 0
 IsDearer p m o = (x : ℕ) → o ≡ Some x → price p (move_of m) < price p (move_of x)
 
@@ -150,7 +150,7 @@ legal_taking p from s promote l =
     let one = and_parts _ _ two.0 in
     record { own = one.0; free = not-true _ one.1; reached = two.1; promotion = three.1; safe = all.1 }
 
--- where one of a piece's two moves there is legal, that which promotes if it may is
+-- if one of a piece's two moves to the square is legal, the one that promotes if it may is legal
 promoted_legal : (p : Shogi) (from s : ℕ) (may promote : Bool) → IsValid p → s < 81 → may_promote (piece_at p.cells from) from s ≡ may → is_legal p (Board from s promote) ≡ true → is_legal p (Board from s may) ≡ true
 promoted_legal p from s true true v h m l = l
 promoted_legal p from s false false v h m l = l
@@ -179,7 +179,7 @@ lowest_price cell may false ok = plain_most cell may
 lowest_price cell true true ok = omega arith
 lowest_price cell false true ok = absurd (cc)
 
--- and the other one, if it comes first, has a higher price
+-- the other move costs more if its code is lower
 plain_dearer : (cell : Option Piece) (own : is_some cell ≡ true) (may promote : Bool) → (not promote || may) ≡ true → cond promote 1 0 < cond may 1 0 → price_with cell may < price_with cell promote
 plain_dearer None own may promote ok less = absurd (cc)
 plain_dearer (Some piece) own true false ok less = omega arith
@@ -221,7 +221,7 @@ price_least p s code x =
     subst (λ (o : Option Move). price_with (piece_at p.cells x.from) (promotes p s x.from) ≤ price p o) (sym x.back)
     (lowest_price (piece_at p.cells x.from) (promotes p s x.from) x.promote (legal_taking p x.from s x.promote x.legal).promotion)
 
--- nor has it where another piece comes first
+-- a taker costs no less than a piece that comes before it in the order
 first_least : (p : Shogi) (s from code : ℕ) (x : TakesFrom p s code) → rank_on p.cells s from ≤ rank_on p.cells s x.from → price_with (piece_at p.cells from) (promotes p s from) ≤ price p (move_of code)
 unfolding rank_on
 first_least p s from code x l =
@@ -229,7 +229,7 @@ first_least p s from code x l =
     (rank_least (price_with (piece_at p.cells from) (promotes p s from)) (price_with (piece_at p.cells x.from) (promotes p s x.from)) from x.from x.here l)
     (price_least p s code x)
 
--- and one of lower code has a higher price
+-- a taker of lower code costs more
 first_less : (p : Shogi) (s from code : ℕ) (x : TakesFrom p s code) → from < 81 → is_own p from ≡ true → rank_on p.cells s from ≤ rank_on p.cells s x.from → code < code_of (taking p s from) → price_with (piece_at p.cells from) (promotes p s from) < price p (move_of code)
 unfolding rank_on
 first_less p s from code x hf own l lt =
@@ -249,7 +249,7 @@ first_less p s from code x hf own l lt =
 
 -- ---- what takes
 
--- the first of the pieces that may, in that order
+-- the first piece of the order that may take gives the least valuable attacker
 pub taker_found : (p : Shogi) (s from : ℕ) → IsValid p → s < 81 → from < 81 → is_some (piece_at p.cells s) ≡ true → is_taker p s from ≡ true
     → ((n : ℕ) → n < 81 → is_taker p s n ≡ true → rank_on p.cells s from ≤ rank_on p.cells s n)
     → Some (code_of (taking p s from)) ≡ least_valuable_attacker p s
@@ -263,14 +263,14 @@ taker_found p s from v hs hf there l least =
     (λ n i t. let x : TakesFrom p s n = takes_from p s n i t in subst (λ (k : ℕ). k ≤ price p (move_of n)) (sym mine) (first_least p s from n x (least x.from x.here (taking_legal p x.from s x.promote v hs x.legal))))
     (λ n i t lt. let x : TakesFrom p s n = takes_from p s n i t in subst (λ (k : ℕ). k < price p (move_of n)) (sym mine) (first_less p s from n x hf own (least x.from x.here (taking_legal p x.from s x.promote v hs x.legal)) lt)))
 
--- nothing, where none may
+-- there is no attacker if no piece may take
 pub taker_none : (p : Shogi) (s : ℕ) → IsValid p → s < 81 → ((n : ℕ) → n < 81 → is_some (piece_at p.cells s) ≡ true → is_taker p s n ≡ false) → None ≡ least_valuable_attacker p s
 taker_none p s v hs none =
     sym (fold_none p s None (legal_codes p) (λ n i. false_from_ne_true (takes_on p s (move_of n)) (λ t.
     let x : TakesFrom p s n = takes_from p s n i t in
     both_ways (is_taker p s x.from) (none x.from x.here x.some) (taking_legal p x.from s x.promote v hs x.legal))))
 
--- what takes, takes there
+-- a taker's move ends on the square
 cheaper_takes : (p : Shogi) (s c : ℕ) (best : Option ℕ) (x : ℕ) → takes_on p s (move_of c) ≡ true → ((y : ℕ) → best ≡ Some y → takes_on p s (move_of y) ≡ true) → cheaper p best c ≡ Some x → takes_on p s (move_of x) ≡ true
 cheaper_takes p s c None x t h e = let q : c ≡ x = cc in subst (λ (y : ℕ). takes_on p s (move_of y) ≡ true) q t
 cheaper_takes p s c (Some y) x t h e =
@@ -298,12 +298,12 @@ reaching p s n l = let t : IsLegalTaking p n s (promotes p s n) = legal_taking p
 pub none_out : (p : Shogi) (s pieces n : ℕ) → has_bit pieces n ≡ (is_own p n && reaches p.cells n s) → has_bit pieces n ≡ false → is_taker p s n ≡ false
 none_out p s pieces n bits out = false_from_ne_true (is_taker p s n) (λ l. both_ways (has_bit pieces n) out (bits ∙ reaching p s n l))
 
--- of those left the first is the first of all
+-- the first of the pieces that are left comes first of all takers
 pub first_of_all : (p : Shogi) (s left from : ℕ) → ((n : ℕ) → n < 81 → has_bit left n ≡ false → is_taker p s n ≡ false) → ((n : ℕ) → n < 81 → has_bit left n ≡ true → rank_on p.cells s from ≤ rank_on p.cells s n)
     → (n : ℕ) → n < 81 → is_taker p s n ≡ true → rank_on p.cells s from ≤ rank_on p.cells s n
 first_of_all p s left from all least n h l = least n h (true_from_ne_false (has_bit left n) (λ out. both_ways (is_taker p s n) (all n h out) l))
 
--- of those that stand near or are on a line, those that reach the square are all
+-- the pieces near or on a line that reach the square are all that reach it
 pub reacher_bits : (own near reach : Bool) → (reach ≡ true → near ≡ true) → ((own && near) && reach) ≡ (own && reach)
 reacher_bits false near reach h = refl
 reacher_bits true true true h = refl
@@ -322,7 +322,7 @@ near_or_lined cells near sliders lines n t hn nb sb lb r =
 
 -- ---- squares on which nothing is taken
 
--- what is neither one's own nor the other side's is nothing
+-- a cell that is neither the mover's nor the opponent's is empty
 nobody : (side : Color) (cell : Option Piece) → is_piece_of side cell ≡ false → is_piece_of (opponent_of side) cell ≡ false → is_some cell ≡ false
 nobody side None a b = refl
 nobody side (Some piece) a b = absurd (go side piece.color a b)
@@ -333,11 +333,11 @@ nobody side (Some piece) a b = absurd (go side piece.color a b)
     go White Black x y = cc
     go White White x y = cc
 
--- what takes on a square takes a piece of the other side
+-- a move that takes on a square takes a piece of the other side
 pub takes_foe : (p : Shogi) (s n : ℕ) → is_some (piece_at p.cells s) ≡ true → is_taker p s n ≡ true → is_piece_of (opponent_of p.side) (piece_at p.cells s) ≡ true
 takes_foe p s n some l = true_from_ne_false (is_piece_of (opponent_of p.side) (piece_at p.cells s)) (λ off. both_ways (is_some (piece_at p.cells s)) (nobody p.side (piece_at p.cells s) (legal_taking p n s (promotes p s n) l).free off) some)
 
--- so none does on a square that is not one of the other side's that some piece reaches
+-- no move takes on a square that holds no reachable piece of the other side
 pub untaken : (p : Shogi) (own movers foe found s : ℕ) (post : ℕ → Squares → Type 0) → IsValid p → s < 81
     → ((n : ℕ) → n < 81 → has_bit own n ≡ is_own p n) → HasMovers p true own movers → ((n : ℕ) → n < 81 → has_bit foe n ≡ is_piece_of (opponent_of p.side) (piece_at p.cells n))
     → ((k : ℕ) (led : Squares) → k < 81 → post k led → HasBits led.bits (reaches p.cells k)) → IsUnion post movers found
@@ -356,7 +356,7 @@ untaken p own movers foe found s post v hs owns moves foes leads u out =
 pub left_set : (left next k n : ℕ) → ((i : ℕ) → has_bit next i ≡ (has_bit left i && not (i == k))) → has_bit next n ≡ true → has_bit left n ≡ true
 left_set left next k n bits e = (and_parts (has_bit left n) (not (n == k)) (sym (bits n) ∙ e)).0
 
--- what is not left was left before, or is the one that was passed
+-- a bit that is not left was cleared before, or is the one just passed
 pub left_or_passed : (left next k n : ℕ) → ((i : ℕ) → has_bit next i ≡ (has_bit left i && not (i == k))) → has_bit next n ≡ false → (n ≡ k) ⊎ (has_bit left n ≡ false)
 left_or_passed left next k n bits out = elim (cases_eq n k) [
   | inl same ↦ inl same

@@ -51,7 +51,7 @@ no_king_none side = grind arith
 not_king : (side : Color) (cell : Option Piece) → is_piece_of side cell ≡ false → is_king side cell ≡ false
 not_king side cell e = grind arith
 
--- what takes can move again
+-- a piece that cannot promote on a square can move on from there
 mobile : (from n : ℕ) (cell : Option Piece) → may_promote cell from n ≡ false → is_immobile n cell ≡ false
 mobile from n cell e = grind arith
 
@@ -78,7 +78,7 @@ pub rank_same : (a b : Cells) (s n : ℕ) → piece_at a n ≡ piece_at b n → 
 unfolding rank_on
 rank_same a b s n e = rw e refl
 
--- ---- a piece of the side moves to a square where none of its own stands
+-- ---- a piece of the side moves to a square that holds no piece of its own
 
 module _ (p : Shogi) (from to : ℕ) (promote : Bool) (len : length p.cells ≡ 81) (hf : from < 81) (ht : to < 81) (own : is_own p from ≡ true) (bare : is_own p to ≡ false) where
   apart : from ≢ to
@@ -115,7 +115,7 @@ module _ (p : Shogi) (from to : ℕ) (promote : Bool) (len : length p.cells ≡ 
     ]
   ]
 
-  -- and the side's own, but for that which moves
+  -- the side's own pieces stay, but for the one that moves
   owns_then : (n : ℕ) → (is_own p n && not (n == from)) ≡ (is_piece_of p.side (piece_at (moved p from to promote) n) && not (n == to))
   owns_then n = elim (cases_eq n to) [
     | inl same ↦ grind (arith, bare, eq-eqb n to same)
@@ -134,7 +134,7 @@ module _ (p : Shogi) (from to : ℕ) (promote : Bool) (len : length p.cells ≡ 
     ]
   ]
 
-  -- the exchange there is then the other side's, with these pieces
+  -- the exchange on the square then belongs to the other side, with these pieces
   pub exchange_after : IsValid (after p (Board from to promote)) → (y : SquareExchange) → y.square ≡ to → y.stands ≡ piece_moved promote (piece_at p.cells from) → y.side ≡ opponent_of p.side
       → ((n : ℕ) → n < 81 → has_bit y.mine.bits n ≡ (is_piece_of (opponent_of p.side) (piece_at p.cells n) && not (n == to))) → ((n : ℕ) → n < 81 → has_bit y.theirs.bits n ≡ (is_own p n && not (n == from)))
       → ((n : ℕ) → n < 81 → has_bit y.mine.bits n ≡ true → piece_at p.cells n ≡ piece_at y.board.now n) → ((n : ℕ) → n < 81 → has_bit y.theirs.bits n ≡ true → piece_at p.cells n ≡ piece_at y.board.now n)
@@ -150,7 +150,7 @@ module _ (p : Shogi) (from to : ℕ) (promote : Bool) (len : length p.cells ≡ 
     same_theirs = λ n h on. own_same n (sym (t n h) ∙ on) ∙ th n h on;
   }
 
--- by a legal move
+-- a legal move gives such an exchange
 pub exchange_after_legal : (p : Shogi) (from to : ℕ) (promote : Bool) → IsValid p → from < 81 → to < 81 → is_legal p (Board from to promote) ≡ true → (y : SquareExchange) → y.board.now ≡ p.cells → y.square ≡ to → y.stands ≡ piece_moved promote (piece_at p.cells from) → y.side ≡ opponent_of p.side
     → ((n : ℕ) → n < 81 → has_bit y.mine.bits n ≡ (is_piece_of (opponent_of p.side) (piece_at p.cells n) && not (n == to))) → ((n : ℕ) → n < 81 → has_bit y.theirs.bits n ≡ (is_own p n && not (n == from)))
     → HasExchange (after p (Board from to promote)) y
@@ -262,7 +262,7 @@ module _ (p : Shogi) (x : SquareExchange) (hs : x.square < 81) (e : HasExchange 
       same_own : (k : ℕ) → k < 81 → has_bit left k ≡ true → piece_at p.cells k ≡ piece_at x.board.now k
       same_own k l r = e.same_mine k l (e.mine k l ∙ (and_parts (is_own p k) (reaches p.cells k x.square) (reach k l r)).0)
 
-  -- the first to take is the side's, and stands on the board
+  -- the first taker belongs to the side, and stands on the board
   module _ (from : ℕ) (t : TakesFirst p x.square from) where
     first_own : is_own p from ≡ true
     first_own = (legal_taking p from x.square (promotes p x.square from) t.legal).own
@@ -270,7 +270,7 @@ module _ (p : Shogi) (x : SquareExchange) (hs : x.square < 81) (e : HasExchange 
     pub first_same : piece_at p.cells from ≡ piece_at x.board.now from
     first_same = e.same_mine from t.here (e.mine from t.here ∙ first_own)
 
-    -- once it has taken the exchange is that of the other side
+    -- once it has taken, the exchange belongs to the other side
     pub after_exchange : (y : SquareExchange) → y.board.now ≡ x.board.now → y.square ≡ x.square → y.stands ≡ piece_moved (promotes p x.square from) (piece_at p.cells from) → y.side ≡ opponent_of p.side
         → y.mine.bits ≡ x.theirs.bits → ((n : ℕ) → has_bit y.theirs.bits n ≡ (has_bit x.mine.bits n && not (n == from))) → HasExchange (after_code p (taking_code p x.square from)) y
     after_exchange y b s st sd m th =

@@ -10,14 +10,14 @@ use Rattle.shogi_eval.specs.Material.{material_of}
 use Rattle.minimax.proofs.Settling.{left_loud, left_quiet}
 use Rattle.static_exchange.specs.Reprisals.{IsWon, IsWonAtLeast, IsReprisal, IsEnough}
 
--- after a quiet move nothing is won
+-- after a quiet move the other side wins nothing
 pub reprisal_quiet : (p : Shogi) (code : ℕ) → is_quiet p (move_of code) ≡ true → IsReprisal p code 0
 reprisal_quiet p code q = let is : leaf_after p Exchange code ≡ material_of (after_code p code) Exchange = left_quiet p Exchange code q in omega (arith, ints, is)
 
 pub enough_quiet : (p : Shogi) (code enough : ℕ) → is_quiet p (move_of code) ≡ true → enough ≤ 0 → IsEnough p code enough
 enough_quiet p code enough q h = let is : leaf_after p Exchange code ≡ material_of (after_code p code) Exchange = left_quiet p Exchange code q in omega (arith, ints, is, h)
 
--- and after another one what the other side wins
+-- after any other move the score is lowered by what the other side wins
 pub reprisal_loud : (p q : Shogi) (code won : ℕ) → is_quiet p (move_of code) ≡ false → q ≡ after_code p code → IsWon q won → IsReprisal p code won
 reprisal_loud p q code won loud at is = left_loud p Exchange code (ap not loud) ∙ subst (λ (r : Shogi). IsWon r won) at is
 

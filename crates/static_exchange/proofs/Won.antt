@@ -26,11 +26,11 @@ use Rattle.static_exchange.specs.Takers.{promotes, taking, taking_code, NoneTake
 use Rattle.static_exchange.proofs.Cheapest.{TakesFrom, left_or_passed, taker_takes}
 use Rattle.static_exchange.proofs.Takings.{settled_stands, settled_takes, settled_zero}
 
--- what is won there is no more
+-- the exchange wins no more than its bound
 pub wins_so_much : (p : Shogi) (s n won : ℕ) → IsWonOn p s n won → WinsAtMostOn p s n won
 wins_so_much p s n won is = omega (arith, ints, is)
 
--- where nothing takes, nothing is won
+-- if nothing takes, nothing is won
 pub won_stands : (p : Shogi) (s n : ℕ) → None ≡ least_valuable_attacker p s → IsWonOn p s n 0
 won_stands p s zero none = let is : settled p Exchange s 0 ≡ material_of p Exchange = settled_zero p Exchange s 0 refl in omega (arith, ints, is)
 won_stands p s (suc n) none = let is : settled p Exchange s (suc n) ≡ material_of p Exchange = settled_stands p Exchange s (suc n) (omega arith) none in omega (arith, ints, is)
@@ -47,7 +47,7 @@ upper has next after won gain back n a w = omega (arith, ints, clamps, n, a, w)
 lower : (has next after won : ℤ) (gain back : ℕ) → next ≡ (pos 0 -ℤ (has +ℤ pos gain)) → after ≤ℤ (next +ℤ pos back) → won ≡ int_max has (pos 0 -ℤ after) → (has +ℤ pos (gain - back)) ≤ℤ won
 lower has next after won gain back n a w = omega (arith, ints, clamps, n, a, w)
 
--- and by bounds of that
+-- bounds of what is won back bound what is won
 pub won_upper : (p q : Shogi) (s n code gain back : ℕ) → 0 < n → Some code ≡ least_valuable_attacker p s → q ≡ after_code p code → IsGain p code gain → WinsAtLeastOn q s (n - 1) back → WinsAtMostOn p s n (gain - back)
 won_upper p q s n code gain back h is at g b =
     upper (material_of p Exchange) (material_of q Exchange) (settled q Exchange s (n - 1)) (settled p Exchange s n) gain back
@@ -60,17 +60,17 @@ won_lower p q s n code gain back h is at g b =
     (ap (λ (r : Shogi). material_of r Exchange) at ∙ g) b
     (settled_takes p q Exchange s n code (settled q Exchange s (n - 1)) h is at refl)
 
--- nothing at least is won back
+-- at least nothing is won back
 pub none_least : (q : Shogi) (s n : ℕ) → WinsAtLeastOn q s n 0
 none_least q s n = let least : material_of q Exchange ≤ℤ settled q Exchange s n = settled_least q Exchange s n in omega (arith, ints, least)
 
--- so no more than the capture gains
+-- an exchange wins no more than its first capture gains
 pub won_gain : (p : Shogi) (s n code gain : ℕ) → 0 < n → Some code ≡ least_valuable_attacker p s → IsGain p code gain → WinsAtMostOn p s n gain
 won_gain p s n code gain h is g =
     let whole : gain - 0 ≡ gain = omega arith in
     subst (WinsAtMostOn p s n) whole (won_upper p (after_code p code) s n code gain 0 h is refl g (none_least (after_code p code) s (n - 1)))
 
--- and that, where nothing is taken back
+-- it wins exactly that if nothing is taken back
 pub won_whole : (p : Shogi) (s n code gain : ℕ) → 0 < n → Some code ≡ least_valuable_attacker p s → IsGain p code gain → None ≡ least_valuable_attacker (after_code p code) s → WinsAtLeastOn p s n gain
 won_whole p s n code gain h is g none =
     let whole : gain - 0 ≡ gain = omega arith in
@@ -110,7 +110,7 @@ won_most_by p s n (Some code) v hs is =
     g.1 (settled_least (after_code p code) Exchange s (suc n - 1)) g.2
     (settled_takes p (after_code p code) Exchange s (suc n) code (settled (after_code p code) Exchange s (suc n - 1)) (omega arith) is refl refl)
 
--- so no more is won there
+-- an exchange wins no more than the piece and the largest promotion
 pub won_most : (p : Shogi) (s n : ℕ) → IsValid p → s < 81 → WinsAtMostOn p s n (taken_gain Exchange (piece_at p.cells s) + PROMOTION_GAIN_MAX)
 won_most p s zero v hs = let is : settled p Exchange s 0 ≡ material_of p Exchange = settled_zero p Exchange s 0 refl in omega (arith, ints, is)
 won_most p s (suc n) v hs = won_most_by p s n (least_valuable_attacker p s) v hs refl
@@ -137,14 +137,14 @@ most_at_most p n (suc k) v h =
 pub won_so_much : (p : Shogi) (s won : ℕ) → s < 81 → WinsAtLeastOn p s captures_max won → IsWonAtLeast p won
 won_so_much p s won h is = let least : settled p Exchange s captures_max ≤ℤ best_settled p Exchange = most_least p captures_max s 80 (omega arith) in omega (arith, ints, least, is)
 
--- nothing at least
+-- a side always wins at least nothing
 pub wins_nothing : (p : Shogi) → IsWonAtLeast p 0
 wins_nothing p = let least : material_of p Exchange ≤ℤ best_settled p Exchange = best_least p Exchange captures_max 80 in omega (arith, ints, least)
 
 pub won_less : (p : Shogi) (less won : ℕ) → less ≤ won → IsWonAtLeast p won → IsWonAtLeast p less
 won_less p less won h l = omega (arith, ints, h, l)
 
--- what is won on no square to excess is won exactly
+-- a sum that is won, and exceeded on no square, is won exactly
 pub won_exactly : (p : Shogi) (won : ℕ) → IsWonAtLeast p won → ((s : ℕ) → s < 81 → WinsAtMostOn p s captures_max won) → IsWon p won
 won_exactly p won least most =
     let high : best_settled p Exchange ≤ℤ (material_of p Exchange +ℤ pos won) = most_at_most p captures_max 80 (material_of p Exchange +ℤ pos won) (λ s l. most s (omega arith)) in
@@ -155,13 +155,13 @@ wins_more p s n less more h l = omega (arith, ints, h, l)
 
 -- ---- the first capture
 
--- what it gains
+-- the gain of the first capture
 pub gain_first : (p : Shogi) (s from : ℕ) → IsValid p → s < 81 → TakesFirst p s from → IsGain p (taking_code p s from) (taken_gain Exchange (piece_at p.cells s) + promotion_gain (promotes p s from) (piece_at p.cells from))
 gain_first p s from v hs t =
     ap (λ (q : Shogi). material_of q Exchange) (after_code_of p (taking p s from) (move_of-board from s (promotes p s from) t.here hs))
     ∙ material_after_board p Exchange from s (promotes p s from) v t.here hs t.legal
 
--- it leaves a valid position
+-- the first capture leaves a valid position
 pub after_first : (p : Shogi) (s from : ℕ) → IsValid p → s < 81 → TakesFirst p s from → IsValid (after_code p (taking_code p s from))
 after_first p s from v hs t = after_valid p (taking_code p s from) v (legal_to_listed p (taking p s from) (move_of-board from s (promotes p s from) t.here hs) t.legal)
 

@@ -1,4 +1,4 @@
--- An exchange on one square as far as it has come.
+-- An exchange on one square, as far as it has come.
 use Rattle.std.specs.Prelude.{ℕ, ◌≡◌, ◌<◌, ◌==◌, ◌&&◌, true, not}
 use Rattle.shogi_core.specs.Bits.{has_bit, HasBits}
 use Rattle.shogi_core.specs.Cell.{is_piece_of}
@@ -9,7 +9,7 @@ use Rattle.shogi_core.specs.Validity.{IsValid}
 use Rattle.shogi_moves.specs.Destinations.{is_own}
 use Rattle.static_exchange.specs.declared.square_exchange.SquareExchange.{SquareExchange}
 
--- it is that of the position: a piece of the other side stands on the square, and elsewhere the pieces of both sides stand that are left, as they do on the board
+-- the exchange of a position: an enemy piece stands on the square, and the pieces that are left elsewhere stand as on the board
 pub record HasExchange (p : Shogi) (x : SquareExchange) : Type 0 where
   pub valid : IsValid p
   pub side : x.side ≡ p.side

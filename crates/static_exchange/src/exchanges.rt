@@ -20,9 +20,9 @@ use shogi_moves::apply;
 /// How many captures an exchange has at most: each takes a piece off the board.
 pub const CAPTURES_MAX: u8 = 40;
 
-/// What the side wins, in points, once the square is settled, by so many captures at most:
-/// it stands, or takes there with its cheapest piece and lets the other side settle it. Exactly
-/// where that is more than the floor and less than `enough`; else a number on the same side.
+/// What the side wins, in points, by at most `n` captures on the square: it declines, or takes with its
+/// cheapest piece and lets the other side go on. The result is exact between `floor` and `enough`, and
+/// otherwise a number on the same side of that window.
 fn won_on(x: &SquareExchange<'_>, n: u8, floor: u32, enough: u32) -> u32
     requires window { floor < enough }
     ensures most { result < enough → (p : Shogi) → HasExchange p x.now
@@ -71,8 +71,8 @@ fn more_by(x: &SquareExchange<'_>, floor: u32, enough: u32) -> u32
     won
 }
 
-/// What the side to move wins by the exchange on the square, or the floor if that is no less: it wins
-/// that floor anyway.
+/// What the side to move wins by the exchange on the square, or `floor`, which it wins anyway, if that
+/// is no less.
 fn more_on(p: &Position, square: Square, floor: u32, enough: u32) -> u32
     requires window { floor < enough }
     requires range { floor ≤ 3100 }
@@ -88,7 +88,7 @@ fn more_on(p: &Position, square: Square, floor: u32, enough: u32) -> u32
     }
 }
 
-/// One of these squares, that of the piece whose capture gains most.
+/// The square in the set that holds the most valuable piece.
 fn dearest(p: &Position, squares: Squares) -> Square
     requires { squares.bits ≢ 0 }
     ensures { has_bit squares.bits result ≡ true }
@@ -106,9 +106,9 @@ fn dearest(p: &Position, squares: Squares) -> Square
     best
 }
 
-/// What the side to move wins, in points, by its best exchange on one square, where it wins the
-/// floor, and no more than that on the square of the last move: exactly where that is less than
-/// `enough`, and else a number from `enough` on.
+/// What the side to move wins, in points, by its best exchange on one square, if it wins `floor` anyway
+/// and no more than that on the square of the last move. The result is exact below `enough`, and
+/// otherwise at least `enough`.
 fn won_elsewhere(p: &Position, last: Square, floor: u32, enough: u32) -> u32
     requires window { floor < enough }
     requires range { floor ≤ 3100 }
@@ -130,9 +130,9 @@ fn won_elsewhere(p: &Position, last: Square, floor: u32, enough: u32) -> u32
     most
 }
 
-/// What the other side wins, in points, by its best exchange on one square after a legal move on the
-/// board: exactly where that is less than `enough`, and else a number from `enough` on. The square
-/// where the move ends is asked first, with no position made.
+/// What the other side wins, in points, by its best exchange on one square after a legal board move.
+/// The result is exact below `enough`, and otherwise at least `enough`. The square on which the move
+/// ends comes first, since most exchanges are there and it needs no new position.
 pub fn best_won(p: &Position, from: Square, to: Square, promote: bool, enough: u32) -> u32
     requires { is_legal p.now (Move.Board from to promote) ≡ true }
     ensures below { result < enough → IsWon (after p.now (Move.Board from to promote)) result }

@@ -20,8 +20,8 @@ pub fn is_quiet(p: &Position, m: &Move) -> bool
 }
 
 /// What the other side wins, in points under `Eval::Exchange`, by its best exchange on one square
-/// after the legal move, and 0 after a quiet one: exactly where it is less than `enough`, and else
-/// a number from `enough` on (own choice).
+/// after the legal move, and 0 after a quiet one. The result is exact below `enough`, and otherwise at
+/// least `enough` (own choice).
 pub fn best_exchange(p: &Position, m: Move, enough: u32) -> u32
     requires { is_legal p.now m ≡ true }
     ensures below { result < enough → IsReprisal p.now (code_of m) result }

@@ -20,8 +20,8 @@ use shogi_core::{Board, Color, Piece, Position, Square, Squares};
 use shogi_eval::{Eval, PROMOTION_GAIN_MAX, promotion_gain, taken_gain};
 use shogi_moves::piece_moved;
 
-/// What stands on the square, the side whose turn it is to take it, and its pieces and those of the
-/// other side that are left on other squares, where they stand on the board.
+/// The piece that stands on the square, the side whose turn it is to take it, and the pieces of both sides
+/// that are left on other squares. Each of them stands on `board` as well.
 #[derive(Clone, Copy)]
 pub struct SquareExchange<'a> {
     pub board: &'a Board,
@@ -57,7 +57,7 @@ impl SquareExchange<'_> {
         })
     }
 
-    /// The exchange on the square where a legal move on the board ends, once it is made.
+    /// The exchange on the square on which a legal board move ends, after that move.
     pub fn after_move(p: &Position, from: Square, to: Square, promote: bool) -> SquareExchange<'_>
         requires { is_legal p.now (Move.Board from to promote) ≡ true }
         ensures square { result.square ≡ to }
@@ -97,8 +97,8 @@ impl SquareExchange<'_> {
             .reachers_among(self.square, self.mine, self.occupied())
     }
 
-    /// Whether a piece of the side that reaches the square legally takes there: its king, or the
-    /// square if the king takes, is looked at with the squares that are occupied then.
+    /// Whether a piece of the side that reaches the square legally takes there. Tests whether its king, or
+    /// the square if the king takes, is attacked with the squares that are then occupied.
     fn may_take(&self, from: Square) -> bool
         ensures { (p : Shogi) → HasExchange p self.now
             → (is_own p from && reaches p.cells from self.now.square) ≡ true
@@ -118,7 +118,7 @@ impl SquareExchange<'_> {
         !self.board.is_attacked_among(king, self.theirs, left)
     }
 
-    /// Which of these pieces takes first, if each may.
+    /// The piece in the set that takes first, if each of them may take.
     fn first_of(&self, pieces: Squares) -> Square
         requires { pieces.bits ≢ 0 }
         ensures among { has_bit pieces.bits result ≡ true }
@@ -141,7 +141,7 @@ impl SquareExchange<'_> {
         first
     }
 
-    /// The square of the cheapest piece that legally takes, the least where several do.
+    /// The square of the cheapest piece that legally takes; at equal prices, the lowest square.
     pub fn first_taker(&self) -> Option<Square>
         ensures if_none { IsNone result → (p : Shogi) → HasExchange p self.now
             → None ≡ least_valuable_attacker p self.now.square }
@@ -173,8 +173,7 @@ impl SquareExchange<'_> {
         taken_gain(Eval::Exchange, self.stands) + promotion_gain(cell, promote)
     }
 
-    /// What the side wins there at most, in points: the piece, and as much as it may gain by a
-    /// promotion.
+    /// A bound on what the side wins there, in points: the piece and the largest promotion.
     pub fn most(&self) -> u32
         ensures most { (p : Shogi) (n : ℕ) → HasExchange p self.now
             → WinsAtMostOn p self.now.square n result }

@@ -26,7 +26,7 @@ fn exchange_price(role: Role) -> u32
     }
 }
 
-/// The same of what takes, twice, and one more where it does not promote.
+/// The price of a capture by the piece: twice its value, and one more if it does not promote.
 fn price_with(cell: Option<Piece>, promote: bool) -> u32
     ensures value { result ≡ price_with cell promote }
     ensures range { result ≤ 20001 }
@@ -51,7 +51,7 @@ pub fn rank_on(board: &Board, square: Square, from: Square) -> u32
     price_with(cell, may_promote(cell, from, square)) * 128 + index
 }
 
-/// The move of what stands on the one square to the other, which promotes if it may.
+/// The move of the piece on the one square to the other; it promotes if it may.
 fn taking(p: &Position, square: Square, from: Square) -> Move
     ensures { result ≡ taking p.now square from }
 {
@@ -63,8 +63,8 @@ fn taking(p: &Position, square: Square, from: Square) -> Move
     }
 }
 
-/// The legal move that takes on the square with the cheapest piece, promoting where it may, the one
-/// of least code where several do.
+/// The legal move that takes on the square with the cheapest piece, promoting if it may; of several, the
+/// one of lowest code.
 pub fn least_valuable_attacker(p: &Position, square: Square) -> Option<Move>
     ensures code { code_in result ≡ least_valuable_attacker p.now square }
     ensures legal { IsLegalIn p.now result }
@@ -78,7 +78,7 @@ pub fn least_valuable_attacker(p: &Position, square: Square) -> Option<Move>
     }
 }
 
-/// Squares outside which the side to move takes nothing.
+/// A set of squares outside which the side to move takes nothing.
 pub fn targets(p: &Position) -> Squares
     ensures { NoneTakenOff p.now result.bits }
 {
