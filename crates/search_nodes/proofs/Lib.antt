@@ -9,3 +9,4 @@ pub mod Passing
 pub mod Rows
 pub mod AskedMoves
 pub mod AnalogousRows
+pub mod RefutedMoves

@@ -1,5 +1,5 @@
 -- Nodes of any depth: a leaf goes through no moves.
-use Rattle.std.proofs.Common.{◌≡◌, ◌<◌, ◌≤◌, ◌+◌, ◌-◌, ◌*◌, ℕ, zero, suc, ℤ, ◌≤ℤ◌, List, [], ◌∷◌, true, ◌==◌, Option, Some, None, refl, sym, arith, subst, ◌<ℤ◌}
+use Rattle.std.proofs.Common.{◌≡◌, ◌<◌, ◌≤◌, ◌+◌, ◌-◌, ◌*◌, ℕ, zero, suc, ℤ, ◌≤ℤ◌, List, [], ◌∷◌, true, ◌==◌, Option, Some, None, refl, sym, arith, subst, ◌≢◌, ◌<ℤ◌}
 use Rattle.std.proofs.lemmas.Bool.{or_left, eq-eqb}
 use Rattle.std.proofs.lemmas.Bool.Decides.{nat_tests}
 use Rattle.std.proofs.lemmas.Int.{ints}
@@ -18,7 +18,7 @@ use Rattle.minimax.specs.Window.{IsCovered, move_alpha}
 use Rattle.search_nodes.specs.Order.{todo, IsKept}
 use Rattle.search_nodes.specs.declared.frame.NodeState.{NodeState}
 use Rattle.search_nodes.specs.declared.frame.NodeState.TheVariants.{Expanding, AwaitingChild, CutOff}
-use Rattle.search_nodes.specs.Visits.{moves_at, IsAsked, IsCurrent, WhereCurrent, IsOver, IsKnownWhile}
+use Rattle.search_nodes.specs.Visits.{moves_at, IsAsked, IsCurrent, WhereCurrent, IsOver, IsKnownWhile, IsReachedBy}
 use Rattle.minimax.proofs.MinimaxLaws.{tree_size-above, tree_size-leaf, worth_bounds, WorthWithin}
 use Rattle.search_nodes.proofs.OrderLaws.{IsWhole, whole, whole_covered}
 use Rattle.minimax.proofs.Cover.{IsCovered-start}
@@ -111,9 +111,18 @@ new_node f p (suc d) alpha priority_moves picker a b =
       kept = tt;
     })
 
--- a value that cuts a node off, and the same value as it is kept
-pub cuts : (p : Shogi) (eval : Eval) (d : ℕ) (beta v v' : ℤ) → v' ≡ v → v ≤ℤ value p eval d → beta ≤ℤ v → (v' ≤ℤ value p eval d) × (beta ≤ℤ v')
-cuts p eval d beta v v' e l h = (subst (λ (y : ℤ). y ≤ℤ value p eval d) (sym e) l, subst (λ (y : ℤ). beta ≤ℤ y) (sym e) h)
+some_is : (b c : ℕ) → Some b ≡ Some c → b ≡ c
+some_is b c e = cc
+
+some_not : (b : ℕ) → Some b ≢ None
+some_not b e = absurd (cc)
+
+-- a value that cuts a node off by a move, and the same value as it is kept
+pub cuts : (p : Shogi) (eval : Eval) (d : ℕ) (beta v v' : ℤ) (b : ℕ) → v' ≡ v → v ≤ℤ value p eval d → beta ≤ℤ v → is_in b (legal_codes p) ≡ true → v ≤ℤ worth p eval (d - 1) b → ((v' ≤ℤ value p eval d) × (beta ≤ℤ v')) × IsReachedBy p eval d v' (Some b)
+cuts p eval d beta v v' b e l h listed w = (
+  (subst (λ (y : ℤ). y ≤ℤ value p eval d) (sym e) l, subst (λ (y : ℤ). beta ≤ℤ y) (sym e) h),
+  (some_not b, λ c same. subst (λ (k : ℕ). (is_in k (legal_codes p) ≡ true) × (v' ≤ℤ worth p eval (d - 1) k)) (some_is b c same) (listed, subst (λ (y : ℤ). y ≤ℤ worth p eval (d - 1) b) (sym e) w)),
+)
 
 threshold_falls_one : (best_value : ℤ) (b m : ℕ) → negated INFINITY <ℤ best_value → negated INFINITY ≤ℤ move_alpha best_value (Some b) m
 threshold_falls_one best_value b m t = grind (arith, ints, nat_tests)

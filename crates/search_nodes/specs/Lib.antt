@@ -7,3 +7,5 @@ pub mod Threats
 pub mod ReplyCache
 pub mod PreFrontier
 pub mod CounterMoves
+pub mod Pairs
+pub mod Refuted

@@ -1,10 +1,11 @@
 -- The moves of a node on the stack, and what is known of it by what it waits for (own choice).
-use Rattle.std.specs.Prelude.{◌≡◌, ℕ, zero, suc, ◌-◌, ℤ, ◌≤ℤ◌, List, [], ◌∷◌, Option}
+use Rattle.std.specs.Prelude.{◌≡◌, ◌≢◌, true, Some, None, ℕ, zero, suc, ◌-◌, ℤ, ◌≤ℤ◌, List, [], ◌∷◌, Option}
 use Rattle.std.proofs.Props.{props}
 use Rattle.shogi_core.specs.declared.moves.Move.{Move}
 use Rattle.shogi_core.specs.Codes.{code_of}
 use Rattle.shogi_core.specs.Position.{Shogi}
 use Rattle.shogi_moves.specs.LegalMoves.{legal_codes}
+use Rattle.shogi_moves.specs.Rising.{is_in}
 use Rattle.shogi_eval.specs.declared.eval.Eval.{Eval}
 use Rattle.shogi_eval.specs.Evaluated.{Evaluated}
 use Rattle.search_nodes.specs.declared.frame.NodeState.{NodeState}
@@ -45,13 +46,20 @@ IsOver Expanding codes = codes ≡ []
 IsOver (AwaitingChild m) codes = ⊥
 IsOver (CutOff v) codes = Unit {0}
 
--- what is known of a node with these moves to visit: the worth of all others but the current one, or that the node is worth enough
+-- the best move is there, legal, and worth this much or more
+abbrev pub IsReachedBy : Shogi → Eval → ℕ → ℤ → Option ℕ → Type 0
+IsReachedBy p e d v best_move = (best_move ≢ None)
+    × ((b : ℕ) → best_move ≡ Some b
+    → (is_in b (legal_codes p) ≡ true) × (v ≤ℤ worth p e (d - 1) b))
+
+-- what is known of a node with these moves to visit: the worth of all others but the current one, or that the node is worth enough, and by which move
 abbrev pub IsKnownWhile : Shogi → Eval → ℕ → ℤ → ℤ → ℤ → Option ℕ → List ℕ → NodeState → Type 0
 IsKnownWhile p e d alpha beta best_value best_move codes Expanding =
     IsCovered (worth p e (d - 1)) (moves_at p d) codes alpha best_value best_move
 IsKnownWhile p e d alpha beta best_value best_move codes (AwaitingChild m) =
     IsCovered (worth p e (d - 1)) (moves_at p d) (code_of m ∷ codes) alpha best_value best_move
-IsKnownWhile p e d alpha beta best_value best_move codes (CutOff v) = (v ≤ℤ value p e d) × (beta ≤ℤ v)
+IsKnownWhile p e d alpha beta best_value best_move codes (CutOff v) =
+    ((v ≤ℤ value p e d) × (beta ≤ℤ v)) × IsReachedBy p e d v best_move
 
 -- it has one proof at most, so it may be a ghost field
 pub IsKnownWhile-prop :

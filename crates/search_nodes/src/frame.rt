@@ -1,7 +1,6 @@
 //! A node of the tree while the search goes through its moves.
 
 ghost use Rattle.std.specs.Prelude.{◌≡◌, ◌≤◌, ◌<◌, ◌≤ℤ◌, ◌<ℤ◌, ℤ, pos, [], true, false, IsTrue, ◌↔◌, ◌≢◌};
-ghost use Rattle.std.specs.Option.{ForSome};
 ghost use Rattle.std.proofs.Props.{props};
 ghost use Rattle.shogi_core.specs.Validity.{IsValid};
 ghost use Rattle.shogi_moves.specs.LegalMoves.{legal_codes};
@@ -9,15 +8,15 @@ ghost use Rattle.shogi_eval.specs.declared.points.TheConstants.{POINTS_MAX};
 ghost use Rattle.minimax.specs.Minimax.{value, negated};
 ghost use Rattle.minimax.specs.Entries.{IsConclusive};
 ghost use Rattle.minimax.specs.Window.{code_at, move_alpha};
-ghost use Rattle.analogous_moves.specs.Analogies.{AreAnalogous};
 ghost use Rattle.search_nodes.specs.Order.{codes_of, IsWithinTree, IsKept, IsKept-prop};
+ghost use Rattle.search_nodes.specs.Pairs.{AreRefutations, AreRefutations-prop};
 ghost use Rattle.search_nodes.specs.Visits.{IsKnownSoFar, known_props, IsCurrent};
 ghost use Rattle.minimax.specs.declared.bounds.TheConstants.{SEARCH_DEPTH_MAX, INFINITY, MATE};
 
 use crate::move_picker::MovePicker;
+use crate::pairs::{Refutations, no_refutations};
 use crate::priority_moves::{KILLERS, PriorityMoves, with_killer};
 use crate::window::move_alpha_at;
-use analogous_moves::AnalogousMoves;
 use minimax::{Entry, MATE};
 use shogi_core::Move;
 use shogi_eval::{Eval, Node};
@@ -40,8 +39,8 @@ pub enum NodeState {
 pub struct Frame {
     pub node: Node,
     pub picker: MovePicker,
-    /// Quiet moves that one reply refutes, once a reply was found that does.
-    pub analogous: Option<AnalogousMoves>,
+    /// Moves that replies refute, as far as they were found.
+    pub refutations: Refutations,
     pub alpha: i32,
     pub beta: i32,
     pub best_value: i32,
@@ -64,7 +63,7 @@ pub struct Frame {
     ghost known: { IsKnownSoFar node depth alpha beta best_value best_move picker state } by { Prim.hlevel known_props },
     ghost moves: { has_move ≡ true → legal_codes node.position ≢ [] } by { Prim.hlevel props },
     ghost kept: { IsKept node.position picker } by { IsKept-prop node.position picker },
-    ghost refuted: { ForSome analogous (AreAnalogous node.position node.eval depth) } by { Prim.hlevel props },
+    ghost refuted: { AreRefutations node.position node.eval depth refutations } by { AreRefutations-prop node.position node.eval depth refutations },
 }
 
 /// Whether some move is legal.
@@ -140,7 +139,7 @@ impl Frame {
         self.has_move = false;
         self.picker = MovePicker::new(depth, priority_moves);
         self.state = NodeState::Expanding;
-        self.analogous = None;
+        self.refutations = no_refutations(depth);
         self.analogy_tries = 0;
         self.analogy_reply = None;
     }
@@ -208,7 +207,7 @@ impl Frame {
     }
 
     /// What the current move has to be worth more than.
-    pub(crate) fn move_alpha(&self, current: &Move) -> i32
+    pub fn move_alpha(&self, current: &Move) -> i32
         requires current { IsCurrent self.now.state current.now }
         ensures move_alpha { result ≡ move_alpha_of self.now current.now }
         ensures least { negated INFINITY ≤ℤ result }
@@ -284,7 +283,7 @@ impl Frame {
     }
 
     /// The current move is not worth enough to become the best one.
-    pub(crate) fn fail_low(&mut self)
+    pub fn fail_low(&mut self)
         requires { FailsLow self.old }
         ensures ended { EndsVisit self.old self.new }
         ensures next { self.new.state ≡ NodeState.Expanding }
@@ -318,7 +317,7 @@ impl Default for Frame {
             has_move: false,
             picker: MovePicker::Done,
             state: NodeState::Expanding,
-            analogous: None,
+            refutations: Refutations::None,
             analogy_tries: 0,
             analogy_reply: None,
             killers: [0; KILLERS],

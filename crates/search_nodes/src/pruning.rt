@@ -6,6 +6,7 @@ ghost use Rattle.analogous_moves.specs.Analogies.{IsQuietMove};
 
 use crate::asked_move::AskedMove;
 use crate::frame::{Frame, NodeState};
+use crate::pairs::Refutations;
 use crate::pre_frontier::PreFrontier;
 use crate::reply_cache::ReplyCache;
 use analogous_moves::AnalogousMoves;
@@ -102,6 +103,11 @@ impl Frame {
         }
     }
 
+    /// Whether moves were found that one reply refutes.
+    fn has_analogous(&self) -> bool {
+        matches!(self.refutations, Refutations::Analogous(_))
+    }
+
     /// Looks for moves that the reply refutes, none of which is worth more than so much, if few replies
     /// were tried.
     fn look_for_analogous(&mut self, reply: &Option<Move>, most: i32)
@@ -112,7 +118,7 @@ impl Frame {
         let Some(reply) = reply else {
             return;
         };
-        if self.analogous.is_some()
+        if self.has_analogous()
             || self.analogy_tries >= ANALOGY_TRIES_MAX
             || self.was_tried(reply)
         {
@@ -120,7 +126,9 @@ impl Frame {
         }
         self.analogy_tries += 1;
         self.analogy_reply = Some(*reply);
-        self.analogous = AnalogousMoves::of(&self.node, *reply, most, self.depth);
+        if let Some(analogous) = AnalogousMoves::of(&self.node, *reply, most, self.depth) {
+            self.refutations = Refutations::Analogous(analogous);
+        }
     }
 
     /// Whether the current move takes nothing and does not promote.
@@ -161,7 +169,7 @@ impl Frame {
         let move_alpha = self.move_alpha(current);
         self.look_for_analogous(reply, move_alpha);
         current.reveal_invariant();
-        let Some(analogous) = &self.analogous else {
+        let Refutations::Analogous(analogous) = &self.refutations else {
             return false;
         };
         if analogous.most > move_alpha || !analogous.has(current) {
@@ -180,11 +188,11 @@ impl Frame {
         let Some(code) = self.picker.quiet_code() else {
             return;
         };
-        if !self.prunes_analogous() || self.analogous.is_none() {
+        if !self.prunes_analogous() || !self.has_analogous() {
             return;
         }
         let move_alpha = self.move_alpha_at(code);
-        let Some(analogous) = &self.analogous else {
+        let Refutations::Analogous(analogous) = &self.refutations else {
             return;
         };
         if analogous.most <= move_alpha {

@@ -32,7 +32,7 @@ use Rattle.minimax.specs.Window.{IsCovered, move_alpha, code_at}
 known_while : (p : Shogi) (e : Eval) (d : ℕ) (alpha beta best_value : ℤ) (best_move : Option ℕ) (codes : List ℕ) (w : NodeState) → IsKnownWhile p e d alpha beta best_value best_move codes w → MatchOption (conclusive_in w) (IsCovered (worth p e (d - 1)) (moves_at p d) (and_current (current_in w) codes) alpha best_value best_move) (λ v. (beta ≤ℤ v) × (v ≤ℤ value p e d))
 known_while p e d alpha beta best_value best_move codes Expanding k = k
 known_while p e d alpha beta best_value best_move codes (AwaitingChild m) k = k
-known_while p e d alpha beta best_value best_move codes (CutOff v) k = (k.1, k.0)
+known_while p e d alpha beta best_value best_move codes (CutOff v) k = (k.0.1, k.0.0)
 
 node_known : (f : Frame) → IsKnownNode (entered_of f)
 node_known f = known_while _ _ _ _ _ _ _ _ f.state f.known

@@ -11,3 +11,4 @@ pub mod SliceLaws
 pub mod Known
 pub mod RankedLaws
 pub mod RankedUse
+pub mod RefutedOnStack

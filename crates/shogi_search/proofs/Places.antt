@@ -55,7 +55,7 @@ has_top s fact h = has (slice_get s.frames s.height) refl h
 pub on_map : (s : Stack) (P Q : Frame → Type 0) → ((f : Frame) → P f → Q f) → OnTop s P → OnTop s Q
 on_map s P Q g h = let t : HasTop s P = has_top s P h in of_top s t.top Q t.is (g t.top t.has)
 
-take_next : (xs : List Frame) (i : ℕ) (f : Frame) → slice_get xs i ≡ Some f → take (i + 1) xs ≡ take i xs ++ f ∷ []
+pub take_next : (xs : List Frame) (i : ℕ) (f : Frame) → slice_get xs i ≡ Some f → take (i + 1) xs ≡ take i xs ++ f ∷ []
 take_next xs i f e = grind (arith, take_more xs i f, slice_get_within xs i f e, get_or_from_slice_get xs i f f e)
 
 -- the frames are those that wait for a child, and the top

@@ -3,7 +3,7 @@
 ghost use Rattle.std.specs.Prelude.{◌≡◌, ◌≤◌, ◌<ℤ◌, ◌<◌, ◌+◌, ◌*◌, ◌-◌, true, false, None, Some, IfSome, IfNone, OnSome, IsSome, IsTrue, ◌↔◌};
 ghost use Rattle.minimax.specs.Entries.{IsConclusive, IsEnough, move_in};
 ghost use Rattle.search_nodes.specs.Visits.{IsAsked};
-ghost use Rattle.search_nodes.specs.Frames.{IsTrueOf, IsToBeLeft};
+ghost use Rattle.search_nodes.specs.Frames.{IsLost, IsTrueOf, IsToBeLeft};
 ghost use Rattle.search_nodes.specs.Changes.{KeepsAsked};
 ghost use Rattle.shogi_search.specs.Stack.{AwaitsChild, AwaitsMove, CallsOnStack, CountsSteps, EntersChild, IsConclusiveEntry, IsEntryOf, IsNarrow, IsParentOf, IsReady, IsRootEntry, IsRunOf, IsStack, IsStackWith, IsStep, IsTrueAnywhere, IsWholeWith, KeepsGoal, LeavesStepsFor, LeavesTop, NotesRoot, OnTop, OnlyAsks, UsesSteps, steps_left};
 ghost use Rattle.shogi_search.specs.Calls.{probe_of, TellsOnce};
@@ -236,11 +236,14 @@ impl Stack {
         requires truth { OnTop self.old (λ top. IsTrueOf top entry.now) }
         ensures { LeavesTop M.Memo memo.old memo.new self.old self.new }
     {
-        let node = self.frames[self.height].node;
+        let child = &self.frames[self.height];
+        let node = child.node;
+        let refutation = child.refutation();
         let current = self.widen();
+        current.reveal_invariant();
         let (alpha, beta) = self.frames[self.height].window(&current);
         if is_conclusive(entry, alpha, beta) {
-            self.frames[self.height].back_up(&current, entry);
+            self.frames[self.height].back_up_with(&current, entry, refutation);
             return;
         }
         self.push(&current, &node, counter_moves, memo);
@@ -261,17 +264,42 @@ impl Stack {
             self.leave_narrow(entry, counter_moves, memo);
             return true;
         }
+        let refutation = self.frames[self.height].refutation();
         self.height -= 1;
         let below = &mut self.frames[self.height];
         let NodeState::AwaitingChild(current) = below.state else {
             unreachable!();
         };
-        below.back_up(&current, entry);
+        current.reveal_invariant();
+        below.back_up_with(&current, entry, refutation);
         true
     }
 
-    /// Continues with the current move of the node on top: by the answer of its child, or into the
-    /// child, which is on top then.
+    /// Whether the current move of the node on top is surely not worth enough, since the reply that led
+    /// to the node refutes it two plies earlier as well.
+    #[inline(always)]
+    fn is_refuted_below(&self, current: &Move) -> bool
+        requires { IsStackWith self.now (AwaitsMove current.now) }
+        ensures { result ≡ true → OnTop self.now (λ top. IsLost top current.now) }
+    {
+        let top = &self.frames[self.height];
+        if top.depth < 3 || self.height < 2 {
+            return false;
+        }
+        let (earlier, below) = (&self.frames[self.height - 2], &self.frames[self.height - 1]);
+        let (NodeState::AwaitingChild(m), NodeState::AwaitingChild(reply)) =
+            (&earlier.state, &below.state)
+        else {
+            return false;
+        };
+        m.reveal_invariant();
+        reply.reveal_invariant();
+        current.reveal_invariant();
+        earlier.is_refuted_after(m, reply, current, top.move_alpha(current))
+    }
+
+    /// Continues with the current move of the node on top: by what a node below it says of the move, by
+    /// the answer of its child, or into the child, which is on top then.
     #[inline(never)]
     fn enter_child<M: Memo>(&mut self, current: &Move, counter_moves: &CounterMoves, memo: &mut M)
         requires { IsWholeWith self.old (AwaitsMove current.now) }
@@ -281,6 +309,10 @@ impl Stack {
         ensures calls { CallsOnStack M.called memo.old memo.new 0 1 self.old None self.new }
         ensures capacity { M.capacity memo.new ≡ M.capacity memo.old }
     {
+        if self.is_refuted_below(current) {
+            self.frames[self.height].fail_low();
+            return;
+        }
         let top = &self.frames[self.height];
         let (alpha, beta) = top.window(current);
         let depth = top.depth - 1;

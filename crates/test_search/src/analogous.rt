@@ -55,7 +55,7 @@ fn after_some_moves(
 
 // So many positions of a game from each beginning, where two plies have at most so many paths, under each
 // evaluation.
-fn assert_games(
+pub fn assert_games(
     rt: &impl Abort,
     alloc: Global,
     (seed, places): (u64, u64),

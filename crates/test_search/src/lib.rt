@@ -10,6 +10,8 @@ mod assertions;
 #[cfg(test)]
 mod below;
 #[cfg(test)]
+mod commuting;
+#[cfg(test)]
 mod exchanges;
 #[cfg(test)]
 mod forgetful;

@@ -1,7 +1,6 @@
-use Rattle.std.proofs.Common.{◌-◌, ◌≡◌, None, Some}
+use Rattle.std.proofs.Common.{◌-◌}
 use Rattle.minimax.specs.Minimax.{worth}
 use Rattle.search_nodes.proofs.Nodes.{new_node}
-use Rattle.analogous_moves.specs.declared.moves.AnalogousMoves.{AnalogousMoves}
 use Rattle.search_nodes.proofs.frame.Frame.enter.Goals as goal
 
 pub invariant_of-self-clause-known : goal.invariant_of-self-clause-known
@@ -13,9 +12,5 @@ invariant_of-self-clause-kept c = (new_node (worth c.args.node.now.position c.ar
 pub returns-clause-counted : goal.returns-clause-counted
 returns-clause-counted c = (new_node (worth c.args.node.now.position c.args.node.now.eval (c.args.depth - 1)) _ _ c.args.alpha _ _ c.new-self.ensures.leaf c.new-self.ensures.inner).counted
 
--- nothing is something
-no_some : (A : Type 0) (x : A) → None ≡ Some x → ⊥
-no_some A x e = cc
-
 pub invariant_of-self-clause-refuted : goal.invariant_of-self-clause-refuted
-invariant_of-self-clause-refuted c = λ moves e. absurd (no_some AnalogousMoves moves e)
+invariant_of-self-clause-refuted c = c.no_refutations-self.ensures c.args.node.now.position c.args.node.now.eval c.args.depth

@@ -28,8 +28,8 @@ asks_there s m d fits top = asked _ m (read_on s d (λ (f : Frame). f.state ≡ 
 
 pub advance-requires : goal.advance-requires
 advance-requires g c =
-    let f : Frame = get_or c.args.self.now.frames c.args.self.now.height c.index-self-self.result in
-    let w : _ = waits _ _ _ _ _ _ _ _ _ _ (asks_there c.args.self.now c.args.current.now c.index-self-self.result (omega (arith, c.requires.stack.height_fits)) c.requires.top) f.known in
+    let f : Frame = get_or c.args.self.now.frames c.args.self.now.height c.index-self-self-2.result in
+    let w : _ = waits _ _ _ _ _ _ _ _ _ _ (asks_there c.args.self.now c.args.current.now c.index-self-self-2.result (omega (arith, c.requires.stack.height_fits)) c.requires.top) f.known in
     listed_to_legal _ _ c.reveal_invariant.ensures.back w.is_listed
 
 pub back_up-requires : goal.back_up-requires
@@ -37,9 +37,9 @@ back_up-requires g c =
     let s : Stack = c.args.self.now in
     let m : Move = c.args.current.now in
     let f : Frame = get_or s.frames s.height c.index-self-self-in-Some.result in
-    let h : Frame = get_or s.frames s.height c.index-self-self.result in
+    let h : Frame = get_or s.frames s.height c.index-self-self-2.result in
     let is : IsTop s f = read_top s c.index-self-self-in-Some.result (omega (arith, c.requires.stack.height_fits)) in
-    let same : h ≡ f = one_top s h f (read_top s c.index-self-self.result (omega (arith, c.requires.stack.height_fits))) is in
+    let same : h ≡ f = one_top s h f (read_top s c.index-self-self-2.result (omega (arith, c.requires.stack.height_fits))) is in
     let current : IsCurrent f.state m = asks_there s m c.index-self-self-in-Some.result (omega (arith, c.requires.stack.height_fits)) c.requires.top in
     let w : _ = waits _ _ _ _ _ _ _ _ _ _ current f.known in
     let truth : IsTrueEntry (position_after f m) f.node.eval (h.depth - 1) c.in-Some.entry = c.in-Some.ensures.truth _ _ (after_valid f.node.position (code_of m) f.valid w.is_listed) in
@@ -59,9 +59,9 @@ back_up-requires-in-Some-answer_of g c =
     let s : Stack = c.args.self.now in
     let m : Move = c.args.current.now in
     let f : Frame = get_or s.frames s.height c.index-self-self-in-Some-answer_of.result in
-    let h : Frame = get_or s.frames s.height c.index-self-self.result in
+    let h : Frame = get_or s.frames s.height c.index-self-self-2.result in
     let is : IsTop s f = read_top s c.index-self-self-in-Some-answer_of.result (omega (arith, c.requires.stack.height_fits)) in
-    let same : h ≡ f = one_top s h f (read_top s c.index-self-self.result (omega (arith, c.requires.stack.height_fits))) is in
+    let same : h ≡ f = one_top s h f (read_top s c.index-self-self-2.result (omega (arith, c.requires.stack.height_fits))) is in
     let current : IsCurrent f.state m = asks_there s m c.index-self-self-in-Some-answer_of.result (omega (arith, c.requires.stack.height_fits)) c.requires.top in
     let place : c.advance.new.self.position ≡ position_after h m = search rules in
     let eval : c.advance.new.self.eval ≡ h.node.eval = search rules in
@@ -107,8 +107,8 @@ narrow-requires g c = record {
 
 pub returns-clause-left : goal.returns-clause-left
 returns-clause-left g c =
-    uses_after c.args.self.now c.narrow.new.self c.push.new.self (get_or c.args.self.now.frames c.args.self.now.height c.index-self-self.result) c.args.current.now
-    (read_top c.args.self.now c.index-self-self.result (omega (arith, c.requires.stack.height_fits)))
+    uses_after c.args.self.now c.narrow.new.self c.push.new.self (get_or c.args.self.now.frames c.args.self.now.height c.index-self-self-2.result) c.args.current.now
+    (read_top c.args.self.now c.index-self-self-2.result (omega (arith, c.requires.stack.height_fits)))
     c.narrow.ensures.top (search rules) c.narrow.ensures.left c.push.ensures.left
 
 pub returns-in-Some-clause-calls : goal.returns-in-Some-clause-calls
@@ -122,12 +122,12 @@ returns-clause-calls g c =
     asks_in_step (steps_and_steps c.answer_of.ensures.asks.asked c.push.ensures.asks.asked) refl (omega (arith, c.push.ensures.height, c.narrow.ensures.height)) (omega (arith, c.push.ensures.height, c.narrow.ensures.height))
 
 pub window-alpha-requires : goal.window-alpha-requires
-window-alpha-requires g c = record { current = asks_there c.args.self.now c.args.current.now c.index-self-self.result (omega (arith, c.requires.stack.height_fits)) c.requires.top }
+window-alpha-requires g c = record { current = asks_there c.args.self.now c.args.current.now c.index-self-self-2.result (omega (arith, c.requires.stack.height_fits)) c.requires.top }
 
 pub overflow_sub-depth : goal.overflow_sub-depth
 overflow_sub-depth g c =
-    let f : Frame = get_or c.args.self.now.frames c.args.self.now.height c.index-self-self.result in
-    omega (arith, (waits _ _ _ _ _ _ _ _ _ _ (asks_there c.args.self.now c.args.current.now c.index-self-self.result (omega (arith, c.requires.stack.height_fits)) c.requires.top) f.known).deep)
+    let f : Frame = get_or c.args.self.now.frames c.args.self.now.height c.index-self-self-2.result in
+    omega (arith, (waits _ _ _ _ _ _ _ _ _ _ (asks_there c.args.self.now c.args.current.now c.index-self-self-2.result (omega (arith, c.requires.stack.height_fits)) c.requires.top) f.known).deep)
 
 pub answer_of-requires : goal.answer_of-requires
 answer_of-requires g c = record { «open» = omega (arith, ints, c.window-alpha.ensures.least, c.window-alpha.ensures.«open», c.window-alpha.ensures.most) }
@@ -135,8 +135,8 @@ answer_of-requires g c = record { «open» = omega (arith, ints, c.window-alpha.
 pub push-requires : goal.push-requires
 push-requires g c =
     let m : Move = c.args.current.now in
-    let f : Frame = get_or c.args.self.now.frames c.args.self.now.height c.index-self-self.result in
-    let is : IsTop c.args.self.now f = read_top c.args.self.now c.index-self-self.result (omega (arith, c.requires.stack.height_fits)) in
+    let f : Frame = get_or c.args.self.now.frames c.args.self.now.height c.index-self-self-2.result in
+    let is : IsTop c.args.self.now f = read_top c.args.self.now c.index-self-self-2.result (omega (arith, c.requires.stack.height_fits)) in
     let asks : f.state ≡ AwaitingChild m = on_top c.args.self.now f (λ (top : Frame). top.state ≡ AwaitingChild m) is c.requires.top in
     let deep : 2 ≤ f.depth - 1 = c.in_default-answer_of.ensures.deep in
     let position : c.advance.new.self.position ≡ position_after f m = search rules in
@@ -148,7 +148,7 @@ push-requires g c =
         deep = subst (λ (n : ℕ). 2 < n) (sym k.1.0) (omega (arith, deep));
         position = position ∙ ap (λ (x : Evaluated). after_code x.position (code_of m)) (sym k.0);
         eval = eval ∙ ap (λ (x : Evaluated). x.eval) (sym k.0);
-      }) (topmost c.args.self.now c.index-self-self.result c.narrow.new.self is c.narrow.ensures.top);
+      }) (topmost c.args.self.now c.index-self-self-2.result c.narrow.new.self is c.narrow.ensures.top);
     }
 
 pub returns-in-Some-clause-ready : goal.returns-in-Some-clause-ready
@@ -159,3 +159,14 @@ returns-in-Some-answer_of-clause-ready g c = ready_on c.args.self.now _ c.back_u
 
 pub returns-clause-ready : goal.returns-clause-ready
 returns-clause-ready g c = c.push.ensures.ready
+
+pub returns-then-is_refuted_below-clause-ready : goal.returns-then-is_refuted_below-clause-ready
+returns-then-is_refuted_below-clause-ready g c = ready_on c.args.self.now _ c.fail_low.new.self (read_top c.args.self.now c.index-self-self.result (omega (arith, c.requires.stack.height_fits))) c.requires.stack c.requires.whole c.fail_low.ensures.ended
+
+pub returns-then-is_refuted_below-clause-left : goal.returns-then-is_refuted_below-clause-left
+returns-then-is_refuted_below-clause-left g c =
+    let f : Frame = get_or c.args.self.now.frames c.args.self.now.height c.index-self-self.result in
+    left_visited c.args.self.now c.args.current.now f c.fail_low.new.self (read_top c.args.self.now c.index-self-self.result (omega (arith, c.requires.stack.height_fits))) c.fail_low.ensures.ended.0 c.fail_low.ensures.ended.1.0
+
+pub returns-then-is_refuted_below-clause-calls : goal.returns-then-is_refuted_below-clause-calls
+returns-then-is_refuted_below-clause-calls g c = asks_in_step (stays g.M.Memo.called _ 0 0 0 0 refl) refl (omega arith) (omega arith)

@@ -14,6 +14,8 @@ use Rattle.shogi_search.proofs.CallLaws.{only_asks_none, only_at_most}
 use Rattle.search_nodes.proofs.Passing.{left_kept}
 use Rattle.shogi_search.proofs.Entries.{same_truth, same_window}
 use Rattle.shogi_search.proofs.Places.{top_deep, HasTop, IsTop, has_top, changed, left_changed, left_in, on_map, on_top, on_with, one_top, read_top}
+use Rattle.shogi_search.proofs.RefutedOnStack.{kept_at_parent, some_map}
+use Rattle.search_nodes.specs.Refuted.{IsRefutedAt, Refutes}
 use Rattle.shogi_search.proofs.Runs.{kept_on}
 use Rattle.shogi_search.proofs.stack.Stack.leave_narrow.Goals as goal
 
@@ -22,8 +24,8 @@ parent_of : (s n : Stack) (child f : Frame) (m : Move) → IsTop s child → IsT
 parent_of s n child f m is top at =
     on_top n f (IsParentOf child m) top (on_top s child (λ (c : Frame). OnTop n (IsParentOf c m)) is at)
 
-pub back_up-requires : goal.back_up-requires
-back_up-requires g c =
+pub back_up_with-requires : goal.back_up_with-requires
+back_up_with-requires g c =
     let s : Stack = c.args.self.now in
     let n : Stack = c.widen-current.new.self in
     let m : Move = c.widen-current.result in
@@ -44,7 +46,11 @@ back_up-requires g c =
           (omega (arith, ints, c.window-alpha.ensures.alpha, c.window-alpha.ensures.least, c.window-alpha.ensures.«open», c.window-alpha.ensures.most))
           (omega (arith, ints, c.window-alpha.ensures.beta, c.window-alpha.ensures.least, c.window-alpha.ensures.«open», c.window-alpha.ensures.most))
           (c.is_conclusive.ensures.0 c.if-is_conclusive.true));
+      refuted = some_map c.refutation-refutation.result (λ found. Refutes child found) (λ found. IsRefutedAt f m found) (λ found known. kept_at_parent f child m found c.reveal_invariant.ensures.back p known) c.refutation-refutation.ensures;
     }
+
+pub refutation-refutation-requires : goal.refutation-refutation-requires
+refutation-refutation-requires g c = record { deep = top_deep c.args.self.now _ (read_top c.args.self.now c.index-self-self.result (omega (arith, c.requires.narrow.stack.height_fits))) c.requires.narrow.stack }
 
 pub window-alpha-requires : goal.window-alpha-requires
 window-alpha-requires g c =
@@ -73,15 +79,15 @@ returns-then-is_conclusive g c =
     let low : n.height < length n.frames = omega (arith, c.widen-current.ensures.root) in
     let f : Frame = get_or n.frames n.height c.index-self-self-then-is_conclusive.result in
     let is : IsTop n f = read_top n c.index-self-self-then-is_conclusive.result low in
-    let kept : left_in n c.back_up.new.self ≡ left_in n f = left_stays n.depth n.bound n.beta f c.back_up.new.self c.back_up.ensures.0 (left_kept f c.back_up.new.self c.back_up.ensures.0 c.back_up.ensures.1.0) in
+    let kept : left_in n c.back_up_with.new.self ≡ left_in n f = left_stays n.depth n.bound n.beta f c.back_up_with.new.self c.back_up_with.ensures.0 (left_kept f c.back_up_with.new.self c.back_up_with.ensures.0 c.back_up_with.ensures.1.0) in
     let less : steps_left n + 1 + steps_after f c.widen-current.result ≤ steps_left c.args.self.now = on_top n f (λ (root : Frame). steps_left n + 1 + steps_after root c.widen-current.result ≤ steps_left c.args.self.now) is c.widen-current.ensures.left in
     record {
       ready = record {
-        stack = changed n f c.back_up.new.self is c.widen-current.ensures.stack c.back_up.ensures.0;
+        stack = changed n f c.back_up_with.new.self is c.widen-current.ensures.stack c.back_up_with.ensures.0;
         whole = λ _. c.widen-current.ensures.whole;
-        top = on_with n n.height c.back_up.new.self (λ (top : Frame). IsFree top.state) low c.back_up.ensures.1.1;
+        top = on_with n n.height c.back_up_with.new.self (λ (top : Frame). IsFree top.state) low c.back_up_with.ensures.1.1;
       };
-      fewer = omega (arith, kept, less, left_changed n f c.back_up.new.self is);
+      fewer = omega (arith, kept, less, left_changed n f c.back_up_with.new.self is);
       some = omega (arith, c.requires.narrow.child);
       above = omega (arith, c.widen-current.ensures.root);
       below = omega (arith, c.requires.narrow.child);

@@ -1,0 +1,5 @@
+pub mod Orders
+pub mod PawnDrops
+pub mod StillLegal
+pub mod Worth
+pub mod Kept

@@ -1,0 +1,106 @@
+//! Moves that replies refute at a node, for the nodes after another move and the same reply.
+
+ghost use Rattle.std.specs.Prelude.{◌≡◌, ◌<◌, ℕ, true, IfSome};
+ghost use Rattle.shogi_core.specs.Position.{Shogi};
+ghost use Rattle.shogi_eval.specs.declared.eval.Eval.{Eval};
+ghost use Rattle.search_nodes.specs.Pairs.{AreRefutations};
+
+use crate::frame::{Frame, NodeState};
+use commuting_moves::{Refutation, RefutedMoves};
+use analogous_moves::AnalogousMoves;
+use minimax::Entry;
+use shogi_core::Move;
+
+/// The least depth of a node whose refuted moves are kept: at lesser ones that costs more than it saves.
+const PAIRS_DEPTH_MIN: u8 = 5;
+
+/// What was found of replies that refute moves of a node, by its depth.
+#[derive(Clone, Copy)]
+pub enum Refutations {
+    /// Nothing.
+    None,
+    /// Quiet moves that one reply refutes, by analogy.
+    Analogous(AnalogousMoves),
+    /// Moves that were gone through, each with its own reply.
+    Pairs(RefutedMoves),
+}
+
+/// Nothing yet, at a node of the depth.
+#[inline(always)]
+pub(crate) fn no_refutations(depth: u8) -> Refutations
+    ensures { (p : Shogi) (e : Eval) (d : ℕ) → AreRefutations p e d result }
+{
+    if depth < PAIRS_DEPTH_MIN {
+        return Refutations::None;
+    }
+    Refutations::Pairs(RefutedMoves::none())
+}
+
+impl Frame {
+    ghost use Rattle.search_nodes.specs.Refuted.{IsRefutedAfter, IsRefutedAt, Refutes};
+    ghost use Rattle.search_nodes.specs.Visits.{IsCurrent};
+    ghost use Rattle.search_nodes.specs.Changes.{EndsVisit, KeepsMoves};
+    ghost use Rattle.search_nodes.specs.Frames.{IsConclusiveAfter, IsTrueAfter};
+
+    /// Where the node is cut off, and its parent keeps refuted moves: the reply that cut it off, as one
+    /// that refutes the move that led to the node.
+    #[inline(always)]
+    pub fn refutation(&self) -> Option<Refutation>
+        requires deep { 1 < self.now.depth }
+        ensures { IfSome result (Refutes self.now) }
+    {
+        if self.depth < PAIRS_DEPTH_MIN - 1 {
+            return None;
+        }
+        let NodeState::CutOff(value) = self.state else {
+            return None;
+        };
+        let reply = self.best_move?;
+        reply.reveal_invariant();
+        let bound = value.checked_neg()?;
+        Some(Refutation { reply, bound })
+    }
+
+    /// Keeps a move that a reply refutes here, where such moves are kept and it is not worth more than
+    /// the best one.
+    fn keep_refuted(&mut self, m: &Move, refutation: &Refutation)
+        requires { IsRefutedAt self.old m.now refutation.now }
+        ensures { KeepsMoves self.old self.new }
+    {
+        if refutation.bound > self.best_value {
+            return;
+        }
+        if let Refutations::Pairs(kept) = &mut self.refutations {
+            kept.keep(m, refutation);
+        }
+    }
+
+    /// Takes in what is known of the current move, and keeps the reply that refutes it, where there is
+    /// one.
+    #[inline(always)]
+    pub fn back_up_with(&mut self, current: &Move, entry: &Entry, refutation: Option<Refutation>)
+        requires deep { 1 < self.old.depth }
+        requires current { IsCurrent self.old.state current.now }
+        requires truth { IsTrueAfter self.old current.now entry.now }
+        requires conclusive { IsConclusiveAfter self.old current.now entry.now }
+        requires refuted { IfSome refutation (IsRefutedAt self.old current.now) }
+        ensures { EndsVisit self.old self.new }
+    {
+        if let Some(refutation) = &refutation {
+            self.keep_refuted(current, refutation);
+        }
+        self.back_up(current, entry);
+    }
+
+    /// Whether the other move is surely worth no more than alpha after the move and the reply, where
+    /// they are legal from here one by one, since the reply refutes it here.
+    #[inline(always)]
+    pub fn is_refuted_after(&self, m: &Move, reply: &Move, other: &Move, alpha: i32) -> bool
+        ensures { result ≡ true → IsRefutedAfter self.now m.now reply.now other.now alpha }
+    {
+        let Refutations::Pairs(kept) = &self.refutations else {
+            return false;
+        };
+        kept.serves_after(m, reply, other, alpha)
+    }
+}
