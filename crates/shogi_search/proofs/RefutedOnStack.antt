@@ -43,7 +43,8 @@ lost_on_top s d d' top m r x k h fits is at_f at_g at_h back_m back_r back_x ref
     let g : Frame = get_or s.frames (s.height - 1) d in
     let one : IsBelow s g = below s d k (omega (arith, h)) fits in
     let same : one.top ≡ top = cc in
-    let parents : take (s.height - 1) s.frames ≡ take (s.height - 2) s.frames ++ f ∷ [] = grind (arith, take_next s.frames (s.height - 2) f (slice_get-get_or s.frames (s.height - 2) d' (omega (arith, fits)))) in
+    let next : s.height - 2 + 1 ≡ s.height - 1 = omega (arith, h) in
+    let parents : take (s.height - 1) s.frames ≡ take (s.height - 2) s.frames ++ f ∷ [] = subst (λ (n : ℕ). take n s.frames ≡ take (s.height - 2) s.frames ++ f ∷ []) next (take_next s.frames (s.height - 2) f (slice_get-get_or s.frames (s.height - 2) d' (omega (arith, fits)))) in
     let two : IsPopped s.root s.eval s.depth (negated INFINITY) s.bound (take (s.height - 2) s.frames) f g = chain_pop _ _ _ _ _ (take (s.height - 2) s.frames) f g (subst (λ (fs : List Frame). IsChain s.root s.eval s.depth (negated INFINITY) s.bound fs g) parents one.popped.chain) in
     let child : IsChild g top r = subst (λ (t : Frame). IsChild g t r) same (same_asked _ _ _ _ one.popped.child at_g) in
     let parent : IsChild f g m = same_asked _ _ _ _ two.child at_f in
