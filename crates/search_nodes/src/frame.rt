@@ -14,7 +14,7 @@ ghost use Rattle.search_nodes.specs.Visits.{IsKnownSoFar, known_props, IsCurrent
 ghost use Rattle.minimax.specs.declared.bounds.TheConstants.{SEARCH_DEPTH_MAX, INFINITY, MATE};
 
 use crate::move_picker::MovePicker;
-use crate::pairs::{Refutations, no_refutations};
+use crate::pairs::Refutations;
 use crate::priority_moves::{KILLERS, PriorityMoves, with_killer};
 use crate::window::move_alpha_at;
 use minimax::{Entry, MATE};
@@ -139,7 +139,7 @@ impl Frame {
         self.has_move = false;
         self.picker = MovePicker::new(depth, priority_moves);
         self.state = NodeState::Expanding;
-        self.refutations = no_refutations(depth);
+        self.refutations = Refutations::None;
         self.analogy_tries = 0;
         self.analogy_reply = None;
     }

@@ -1,8 +1,9 @@
 //! Moves that replies refute at a node, for the nodes after another move and the same reply.
 
-ghost use Rattle.std.specs.Prelude.{◌≡◌, ◌<◌, ℕ, true, IfSome};
+ghost use Rattle.std.specs.Prelude.{◌≡◌, ◌<◌, ◌-◌, ℕ, true, IfSome};
 ghost use Rattle.shogi_core.specs.Position.{Shogi};
 ghost use Rattle.shogi_eval.specs.declared.eval.Eval.{Eval};
+ghost use Rattle.commuting_moves.specs.Refuted.{AreRefuted};
 ghost use Rattle.search_nodes.specs.Pairs.{AreRefutations};
 
 use crate::frame::{Frame, NodeState};
@@ -14,7 +15,7 @@ use shogi_core::Move;
 /// The least depth of a node whose refuted moves are kept: at lesser ones that costs more than it saves.
 const PAIRS_DEPTH_MIN: u8 = 5;
 
-/// What was found of replies that refute moves of a node, by its depth.
+/// What was found of replies that refute moves of a node.
 #[derive(Clone, Copy)]
 pub enum Refutations {
     /// Nothing.
@@ -25,15 +26,15 @@ pub enum Refutations {
     Pairs(RefutedMoves),
 }
 
-/// Nothing yet, at a node of the depth.
-#[inline(always)]
-pub(crate) fn no_refutations(depth: u8) -> Refutations
-    ensures { (p : Shogi) (e : Eval) (d : ℕ) → AreRefutations p e d result }
+/// The moves that are kept with their replies.
+fn kept_of(found: &Refutations) -> RefutedMoves
+    ensures { (p : Shogi) (e : Eval) (d : ℕ) → AreRefutations p e d found.now
+        → AreRefuted p e (d - 2) result }
 {
-    if depth < PAIRS_DEPTH_MIN {
-        return Refutations::None;
+    match found {
+        Refutations::Pairs(kept) => *kept,
+        _ => RefutedMoves::none(),
     }
-    Refutations::Pairs(RefutedMoves::none())
 }
 
 impl Frame {
@@ -63,16 +64,17 @@ impl Frame {
 
     /// Keeps a move that a reply refutes here, where such moves are kept and it is not worth more than
     /// the best one.
+    #[inline(never)]
     fn keep_refuted(&mut self, m: &Move, refutation: &Refutation)
         requires { IsRefutedAt self.old m.now refutation.now }
         ensures { KeepsMoves self.old self.new }
     {
-        if refutation.bound > self.best_value {
+        if refutation.bound > self.best_value || self.depth < PAIRS_DEPTH_MIN {
             return;
         }
-        if let Refutations::Pairs(kept) = &mut self.refutations {
-            kept.keep(m, refutation);
-        }
+        let mut kept = kept_of(&self.refutations);
+        kept.keep(m, refutation);
+        self.refutations = Refutations::Pairs(kept);
     }
 
     /// Takes in what is known of the current move, and keeps the reply that refutes it, where there is
@@ -94,7 +96,7 @@ impl Frame {
 
     /// Whether the other move is surely worth no more than alpha after the move and the reply, where
     /// they are legal from here one by one, since the reply refutes it here.
-    #[inline(always)]
+    #[inline(never)]
     pub fn is_refuted_after(&self, m: &Move, reply: &Move, other: &Move, alpha: i32) -> bool
         ensures { result ≡ true → IsRefutedAfter self.now m.now reply.now other.now alpha }
     {

@@ -251,6 +251,7 @@ impl Stack {
 
     /// The node below the top takes in what is known of the node on top, where there is one. A child
     /// of the root that was asked under a narrow window may be entered again.
+    #[inline(always)]
     fn pop<M: Memo>(&mut self, entry: &Entry, counter_moves: &CounterMoves, memo: &mut M) -> bool
         requires { IsWholeWith self.old (λ top. IsEntryOf top entry.now) }
         ensures left { result ≡ true → LeavesTop M.Memo memo.old memo.new self.old self.new }
@@ -373,6 +374,7 @@ impl Stack {
 
     /// Where the node on top is cut off, keeps the move that cut it off as the reply to the one that
     /// led to it.
+    #[inline(always)]
     fn keep_counter_move(&self, counter_moves: &mut CounterMoves) {
         if self.height == 0 || self.height >= self.frames.len() {
             return;

@@ -11,6 +11,3 @@ invariant_of-self-clause-kept c = (new_node (worth c.args.node.now.position c.ar
 
 pub returns-clause-counted : goal.returns-clause-counted
 returns-clause-counted c = (new_node (worth c.args.node.now.position c.args.node.now.eval (c.args.depth - 1)) _ _ c.args.alpha _ _ c.new-self.ensures.leaf c.new-self.ensures.inner).counted
-
-pub invariant_of-self-clause-refuted : goal.invariant_of-self-clause-refuted
-invariant_of-self-clause-refuted c = c.no_refutations-self.ensures c.args.node.now.position c.args.node.now.eval c.args.depth
