@@ -18,10 +18,11 @@ use Rattle.commuting_moves.specs.Refuted.{IsRefuted, IsRefutedByCode}
 pub by_code : (p : Shogi) (e : Eval) (d : ℕ) (x r : Move) (bound : ℤ) → move_of (code_of x) ≡ Some x → move_of (code_of r) ≡ Some r → IsRefuted p e d x r bound → IsRefutedByCode p e d (code_of x) (code_of r) bound
 by_code p e d x r bound back_x back_r h =
     let at : after_code p (code_of x) ≡ after p x = after_code_of p x back_x in
-    let then : after_code (after p x) (code_of r) ≡ after (after p x) r = after_code_of (after p x) r back_r in
-    (legal_to_listed p x back_x h.legal,
-    subst (λ (q : Shogi). is_in (code_of r) (legal_codes q) ≡ true) (sym at) (legal_to_listed (after p x) r back_r h.reply),
-    subst (λ (q : Shogi). value (after_code q (code_of r)) e d ≤ℤ bound) (sym at) (subst (λ (q : Shogi). value q e d ≤ℤ bound) (sym then) h.low))
+    let then : after_code (after p x) (code_of r) ≡ after (after p x) r = after_code_of (after p x) r back_r in (
+      legal_to_listed p x back_x h.legal,
+      subst (λ (q : Shogi). is_in (code_of r) (legal_codes q) ≡ true) (sym at) (legal_to_listed (after p x) r back_r h.reply),
+      subst (λ (q : Shogi). value (after_code q (code_of r)) e d ≤ℤ bound) (sym at) (subst (λ (q : Shogi). value q e d ≤ℤ bound) (sym then) h.low),
+    )
 
 -- and back
 pub of_code : (p : Shogi) (e : Eval) (d : ℕ) (x r : Move) (bound : ℤ) → move_of (code_of x) ≡ Some x → move_of (code_of r) ≡ Some r → IsRefutedByCode p e d (code_of x) (code_of r) bound → IsRefuted p e d x r bound

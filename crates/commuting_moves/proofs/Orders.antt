@@ -161,7 +161,7 @@ swap p s t a b ab ba agree =
 swap_sides : (p : Shogi) (side : Color) (a b : Move) → AreDisjoint a b → AreDisjoint b a → made (opponent_of side) (made side p a) b ≡ made side (made (opponent_of side) p b) a
 swap_sides p side a b ab ba = swap p side (opponent_of side) a b ab ba (λ i e f. absurd (no_common side i (place_its p.cells side a i e) (place_its p.cells (opponent_of side) b i f)))
 
--- counts that one move takes from and the other adds to, where there is one to take
+-- counts that one move takes from and the other adds to, if there is one to take
 agree_counts : (hands : HandCounts) (cells : Cells) (side : Color) (a b : Move) → length hands ≡ 14 → IsHeld hands side a → IsHeld hands side b → (i : ℕ) → place_changed cells side a ≡ Some i → place_changed cells side b ≡ Some i → Agree hands i (count_changed a) (count_changed b)
 agree_counts hands cells side a b len ha hb i e f = (let low : i < 14 = place_fits side i (place_its cells side a i e) in omega (arith, len, low), counts a b ha hb e f)
   where

@@ -30,7 +30,7 @@ use Rattle.analogous_moves.proofs.StillLegal.{standing_drop}
 
 -- ---- files
 
--- where a pawn dropped there is the only one of the file, there was none
+-- if a dropped pawn is the only one of its file, the file had none before
 free_of : (cells : Cells) (side : Color) (to : ℕ) → length cells ≡ 81 → to < 81 → piece_at cells to ≡ None → is_pawn side (dropped side kinds.Pawn) ≡ true → pawns_on_file side (to / 9) (set cells to (dropped side kinds.Pawn)) ≤ 1 → pawns_on_file side (to / 9) cells ≤ 0
 free_of cells side to len ht bare pawn few = grind (arith, count_on_file-set (is_pawn side) (to / 9) to cells (dropped side kinds.Pawn) None, here_on (to / 9) to)
 
@@ -61,7 +61,7 @@ pawn_reaches : (cells : Cells) (side : Color) (to k : ℕ) → piece_at cells to
 unfolding reaches
 pawn_reaches cells side to k e = ap (λ (cell : Option Piece). cell_reaches cells cell to k) e ∙ step_alone (has_step (record { color = side; role = Pawn }) to k)
 
--- a king of the other side stands where it did before a legal move
+-- a king of the other side stands as before a legal move
 king_before : (s : Shogi) (x : Move) → IsValid s → IsOnSquares x → is_legal s x ≡ true → (k : ℕ) → is_king (opponent_of s.side) (piece_at (after s x).cells k) ≡ true → piece_at s.cells k ≡ piece_at (after s x).cells k
 king_before s (Board from to promote) v on l k crown = (left_board s from to promote v on.0 on.1 (legal_own s from to promote l)).kings k crown
 king_before s (Drop kind to) v on l k crown = (standing_drop s.cells s.side kind to v.cells_fit on).kings k crown

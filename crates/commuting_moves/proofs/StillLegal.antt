@@ -134,7 +134,7 @@ held_of p (Drop kind to) e = ltb-true 0 (count_in_hand p.hands p.side kind) (
     let two = and_parts (nat_lt 0 (count_in_hand p.hands p.side kind) && is_none (piece_at p.cells to)) (not (is_immobile to (dropped p.side kind))) three.0 in
     (and_parts (nat_lt 0 (count_in_hand p.hands p.side kind)) (is_none (piece_at p.cells to)) two.0).0)
 
--- where the move drops a pawn, its side has none on the file
+-- if the move drops a pawn, its side has none on the file
 abbrev HasFreeFile : Cells → Color → Move → Type 0
 HasFreeFile cells side (Board from to promote) = Unit {0}
 HasFreeFile cells side (Drop kind to) = is_pawn_kind kind ≡ true → pawns_on_file side (to / 9) cells ≤ 0
@@ -176,7 +176,7 @@ bare_of p kind to e = is_none-true (piece_at p.cells to) (
     let two = and_parts (nat_lt 0 (count_in_hand p.hands p.side kind) && is_none (piece_at p.cells to)) (not (is_immobile to (dropped p.side kind))) three.0 in
     (and_parts (nat_lt 0 (count_in_hand p.hands p.side kind)) (is_none (piece_at p.cells to)) two.0).1)
 
--- where the one position has the same board after a drop as a valid one
+-- if the board after a drop is that of a valid position, the file of a dropped pawn was free
 file_of : (p : Shogi) (q : Shogi) (n : Shogi) (m : Move) → IsValid n → length q.cells ≡ 81 → IsOnSquares m → is_pseudo_legal p m ≡ true → (piece_at q.cells (end_of m) ≡ piece_at p.cells (end_of m)) → cells_after q.cells q.side m ≡ n.cells → HasFreeFile q.cells q.side m
 file_of p q n (Board from to promote) v len on e same there = tt
 file_of p q n (Drop kind to) v len on e same there =
@@ -187,12 +187,12 @@ no_mate_of : (q s : Shogi) (m x : Move) → IsValid q → IsValid s → q.side �
 no_mate_of q s (Board from to promote) x vq vs one on_m on_x l off same = refl
 no_mate_of q s (Drop kind to) x vq vs one on_m on_x l off same = no_mate q s x to vq vs one on_x kind on_m l off same
 
--- what stands where the move ends
+-- the cell on which the move ends
 end_stands : (p : Shogi) (r x m : Move) → AreApart m r x → piece_at (after (after p x) r).cells (end_of m) ≡ piece_at p.cells (end_of m)
 end_stands p r x (Board from to promote) apart = same_there p r x to apart.reply.1 apart.other.1
 end_stands p r x (Drop kind to) apart = same_there p r x to apart.reply apart.other
 
--- the move is legal after the other one and the reply, where that is legal after the move and the reply
+-- the move is legal after the other move and the reply, if that move is legal after the move and the reply
 pub still_legal : (p : Shogi) (m r x : Move) → IsValid p → IsOnSquares m → IsOnSquares r → IsOnSquares x → AreApart m r x → is_legal p m ≡ true → is_legal (after p m) r ≡ true → is_legal (after (after p m) r) x ≡ true → is_legal p x ≡ true → is_legal (after p x) r ≡ true → is_legal (after (after p x) r) m ≡ true
 still_legal p m r x v on_m on_r on_x apart lm lmr lmrx lx lxr =
     let vq : IsValid (after (after p x) r) = move_valid (after p x) r (move_valid p x v on_x lx) on_r lxr in

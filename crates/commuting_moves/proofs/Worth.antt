@@ -48,7 +48,7 @@ worth_same p e d m r x on_m on_x same =
     ∙ ap (λ (n : Shogi). negated (value n e (suc d))) (sym same)
     ∙ sym (worth_of_move (after (after p x) r) e d m (move_back m on_m))
 
--- so it is worth no more than the bound that the reply leaves there
+-- the position is worth no more than the bound that the reply leaves
 lost_two : (m r x : Move) (bound alpha : ℤ) → IsOnSquares m → IsOnSquares r → IsOnSquares x → AreApart m r x → bound ≤ℤ alpha → (p : Shogi) (e : Eval) (d : ℕ) → IsValid p → IsLegalPair p m r x → IsRefuted p e (suc (suc d)) x r bound → worth (after (after p m) r) e (suc d) (code_of x) ≤ℤ alpha
 lost_two m r x bound alpha on_m on_r on_x apart enough p e d v legal refuted =
     let l : is_legal (after (after p x) r) m ≡ true = still_legal p m r x v on_m on_r on_x apart legal.first legal.reply legal.last refuted.legal refuted.reply in
@@ -64,7 +64,7 @@ lost_after m r x bound alpha on_m on_r on_x apart enough p e (suc (suc d)) deep 
     let one : suc d ≡ suc (suc d) - 1 = omega arith in
     subst (λ (n : ℕ). worth (after (after p m) r) e n (code_of x) ≤ℤ alpha) one (lost_two m r x bound alpha on_m on_r on_x apart enough p e d v legal refuted)
 
--- ---- where such a move comes from
+-- ---- the origin of such a move
 
 -- a reply that is worth so much to the other side, at the child of a node of two plies more, refutes the move there
 pub refuted_by : (p : Shogi) (e : Eval) (depth : ℕ) (x r : Move) (v : ℤ) → move_of (code_of r) ≡ Some r → 0 < depth → is_legal p x ≡ true → is_in (code_of r) (legal_codes (after p x)) ≡ true → v ≤ℤ worth (after p x) e depth (code_of r) → IsRefuted p e depth x r (negated v)

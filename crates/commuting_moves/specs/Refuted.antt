@@ -24,19 +24,19 @@ pub record IsLegalPair (p : Shogi) (m r x : Move) : Type 0 where
   pub reply : is_legal (after p m) r ≡ true
   pub last : is_legal (after (after p m) r) x ≡ true
 
--- at every valid position where they are legal so and the reply refutes the move x, x is worth no more than alpha after the move m and the reply, at a node of that many plies, two or more
+-- at every valid position, if the moves are legal in turn and the reply refutes x, then x is worth no more than alpha
 abbrev pub IsLostAfter : Move → Move → Move → ℤ → ℤ → Type 0
 IsLostAfter m r x bound alpha = (p : Shogi) (e : Eval) (depth : ℕ) → 1 < depth → IsValid p
     → IsLegalPair p m r x → IsRefuted p e depth x r bound
     → worth (after (after p m) r) e (depth - 1) (code_of x) ≤ℤ alpha
 
--- at every valid position where both moves are legal, x and the reply and m leave what m and the reply and x leave
+-- at every valid position, if both moves are legal, x, the reply and m lead to the position of m, the reply and x
 abbrev pub LeadToOne : Move → Move → Move → Type 0
 LeadToOne m r x = (p : Shogi) → IsValid p → is_legal p m ≡ true → is_legal p x ≡ true
     → after_code (after_code (after_code p (code_of x)) (code_of r)) (code_of m)
     ≡ after_code (after_code (after_code p (code_of m)) (code_of r)) (code_of x)
 
--- where the moves are legal as far as two nodes of a search go, m is legal after x and the reply as well
+-- if the moves are legal as far as two nodes of a search go, m is legal after x and the reply as well
 abbrev pub IsStillLegal : Move → Move → Move → Type 0
 IsStillLegal m r x = (p : Shogi) → IsValid p → IsLegalPair p m r x → is_legal p x ≡ true
     → is_legal (after p x) r ≡ true → is_legal (after (after p x) r) m ≡ true
@@ -47,12 +47,12 @@ IsRefutedByCode p e d x r bound = (is_in x (legal_codes p) ≡ true)
     × (is_in r (legal_codes (after_code p x)) ≡ true)
     × (value (after_code (after_code p x) r) e d ≤ℤ bound)
 
--- so it is of each move that is kept
+-- each kept move is refuted by its reply
 abbrev pub AreRefuted : Shogi → Eval → ℕ → RefutedMoves → Type 0
 AreRefuted p e d kept = (n : ℕ) → n < kept.len
     → IsRefutedByCode p e d (slice_index kept.moves n) (slice_index kept.replies n) kept.bound
 
--- at every valid position where the moves that are kept are refuted, and these are legal one by one, the move x is worth no more than alpha after the move m and the reply, at a node of that many plies, two or more
+-- at every valid position, if the kept moves are refuted and these moves are legal in turn, x is worth no more than alpha
 abbrev pub IsLostWith : RefutedMoves → Move → Move → Move → ℤ → Type 0
 IsLostWith kept m r x alpha = (p : Shogi) (e : Eval) (depth : ℕ) → 1 < depth → IsValid p
     → IsLegalPair p m r x → AreRefuted p e depth kept

@@ -1,8 +1,8 @@
 //! Two moves of one side that may change places round a reply, found by squares alone.
 //!
-//! Where a reply refutes a move at a node, it does so after another move and the same reply too, if no
-//! two of the three share a square and neither the reply nor the refuted move ends on the way of the
-//! other one: then both orders lead to one position. `RefutedMoves` keeps moves with their replies.
+//! If a reply refutes a move at a node, it also refutes it after another move and the same reply, as long as
+//! no two of the three share a square and neither the reply nor the refuted move ends between the other
+//! move's squares: both orders lead to one position. `RefutedMoves` keeps moves with their replies.
 #![tactic(auto)]
 
 ghost use Rattle.std.specs.Prelude.{◌≡◌, ℕ, ◌<◌, true, false};
@@ -16,7 +16,6 @@ mod refuted_moves;
 mod tests;
 
 pub use refuted_moves::{REFUTED_MAX, RefutedMoves};
-
 use shogi_core::{Move, Squares};
 use shogi_replies::squares_between;
 
@@ -100,8 +99,8 @@ fn have_free_squares(m: &Move, reply: &Move, other: &Move) -> bool
     from_reply && from_other && are_disjoint(reply, other)
 }
 
-/// Whether a move, a reply and another move of the first one's side let each other be, by squares: then
-/// the move and the other one may change places, and the move is still legal in the second place.
+/// Whether two moves of one side and the reply between them do not interfere, by squares. If so, the two
+/// moves may change places, and the first is still legal in the second place.
 pub fn are_apart(m: &Move, reply: &Move, other: &Move) -> bool
     ensures apart { result ≡ true → AreApart m.now reply.now other.now }
     ensures orders { result ≡ true → LeadToOne m.now reply.now other.now }

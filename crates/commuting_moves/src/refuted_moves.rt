@@ -22,7 +22,7 @@ pub struct RefutedMoves {
 }
 
 impl RefutedMoves {
-    /// None yet.
+    /// An empty list.
     pub fn none() -> RefutedMoves
         ensures { (p : Shogi) (e : Eval) (d : ℕ) → AreRefuted p e d result }
     {
@@ -34,7 +34,7 @@ impl RefutedMoves {
         }
     }
 
-    /// Keeps one more move that a reply refutes, where there is room.
+    /// Keeps one more move with the reply that refutes it, if there is room.
     pub fn keep(&mut self, m: &Move, refutation: &Refutation)
         ensures { (p : Shogi) (e : Eval) (d : ℕ) → AreRefuted p e d self.old
             → IsRefuted p e d m.now refutation.now.reply refutation.now.bound
@@ -74,8 +74,8 @@ impl RefutedMoves {
         false
     }
 
-    /// Whether the other move is surely worth no more than alpha after the move and the reply, where it
-    /// is legal then: the reply refutes it without the move, and the move may come after it as well.
+    /// True only if the other move, when it is legal after the move and the reply, is worth no more than
+    /// alpha there: the reply refutes it without the move, and the move may come last as well.
     pub fn serves_after(&self, m: &Move, reply: &Move, other: &Move, alpha: i32) -> bool
         ensures { result ≡ true → IsLostWith self.now m.now reply.now other.now alpha }
     {

@@ -34,7 +34,7 @@ waits_at : (f : ℕ → ℤ) (p : Shogi) (d m : ℕ) (rest : List ℕ) (alpha be
 waits_at f p zero m rest alpha best_value b c = let i : is_in m [] ≡ true = c.among m (or_left (m == m) (is_in m rest) (eq-eqb m m refl)) in absurd (cc)
 waits_at f p (suc d) m rest alpha best_value b c = record { deep = omega arith; is_listed = c.among m (or_left (m == m) (is_in m rest) (eq-eqb m m refl)); covered = c }
 
--- some move is the current one, where something holds of it
+-- if something holds of the current move, there is one
 pub record HasCurrent (w : NodeState) (fact : Move → Type 0) : Type 0 where
   pub current : Move
   pub is : IsCurrent w current
@@ -60,7 +60,7 @@ waits p eval d alpha beta best_value b ms Expanding m e c = absurd e
 waits p eval d alpha beta best_value b ms (AwaitingChild k) m e c = waits_at (worth p eval (d - 1)) p d (code_of m) ms alpha best_value b (subst (λ (x : Move). IsCovered (worth p eval (d - 1)) (moves_at p d) (code_of x ∷ ms) alpha best_value b) e c)
 waits p eval d alpha beta best_value b ms (CutOff v) m e c = absurd e
 
--- what is known of a node that waits for the answer of a move does not depend on where its window ends
+-- the facts of a node that waits for a move's answer do not depend on the end of its window
 pub known_under : (p : Shogi) (eval : Eval) (d : ℕ) (alpha beta bound best_value : ℤ) (b : Option ℕ) (ms : List ℕ) (w : NodeState) → IsAsked w → IsKnownWhile p eval d alpha beta best_value b ms w → IsKnownWhile p eval d alpha bound best_value b ms w
 known_under p eval d alpha beta bound best_value b ms Expanding a c = absurd a
 known_under p eval d alpha beta bound best_value b ms (AwaitingChild k) a c = c

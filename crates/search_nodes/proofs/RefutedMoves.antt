@@ -64,7 +64,7 @@ refuted_at f g x found at back first same less refuted =
     subst (λ (n : ℕ). IsRefuted f.node.position f.node.eval n x found.reply found.bound) depth
     (subst (λ (e : Eval). IsRefuted f.node.position e (g.depth - 1) x found.reply found.bound) same r)
 
--- a node f that waits for m, its child g that waits for the reply r, and the child h of that, which waits for x: where f says that r refutes x, x is not worth enough at h
+-- a node f waits for m, its child g for the reply r, and the child h of g for x:
 pub lost_on_stack : (f g h : Frame) (m r x : Move) → f.state ≡ AwaitingChild m → g.state ≡ AwaitingChild r → h.state ≡ AwaitingChild x
     → move_of (code_of m) ≡ Some m → move_of (code_of r) ≡ Some r → move_of (code_of x) ≡ Some x
     → g.node.position ≡ position_after f m → h.node.position ≡ position_after g r → h.node.eval ≡ f.node.eval → h.depth + 2 ≡ f.depth → 1 < h.depth
@@ -73,11 +73,11 @@ lost_on_stack f g h m r x at_f at_g at_h back_m back_r back_x first second eval 
     let one : g.node.position ≡ after f.node.position m = first ∙ after_code_of f.node.position m back_m in
     let two : h.node.position ≡ after (after f.node.position m) r = second ∙ after_code_of g.node.position r back_r ∙ ap (λ (q : Shogi). after q r) one in
     let low : worth (after (after f.node.position m) r) f.node.eval (f.depth - 3) (code_of x) ≤ℤ move_alpha_of h x = refuted (omega (arith, less, deep))
-        (record {
-          first = asked_legal f m at_f back_m;
-          reply = subst (λ (q : Shogi). is_legal q r ≡ true) one (asked_legal g r at_g back_r);
-          last = subst (λ (q : Shogi). is_legal q x ≡ true) two (asked_legal h x at_h back_x);
-        }) in
+    (record {
+      first = asked_legal f m at_f back_m;
+      reply = subst (λ (q : Shogi). is_legal q r ≡ true) one (asked_legal g r at_g back_r);
+      last = subst (λ (q : Shogi). is_legal q x ≡ true) two (asked_legal h x at_h back_x);
+    }) in
     let depth : f.depth - 3 ≡ h.depth - 1 = omega (arith, less) in
     subst (λ (n : ℕ). worth h.node.position h.node.eval n (code_of x) ≤ℤ move_alpha_of h x) depth
     (subst (λ (e : Eval). worth h.node.position e (f.depth - 3) (code_of x) ≤ℤ move_alpha_of h x) (sym eval)

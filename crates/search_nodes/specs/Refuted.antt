@@ -20,7 +20,7 @@ abbrev pub IsRefutedAt : Frame → Move → Refutation → Type 0
 IsRefutedAt f x found =
     IsRefuted f.node.position f.node.eval (f.depth - 2) x found.reply found.bound
 
--- where the moves are legal one by one from the node, the move x is worth no more than alpha after the other two, if two plies are left there
+-- if the moves are legal one by one from the node, the move x is worth no more than alpha after the other two
 abbrev pub IsRefutedAfter : Frame → Move → Move → Move → ℤ → Type 0
 IsRefutedAfter f m r x alpha = 3 < f.depth → IsLegalPair f.node.position m r x
     → worth (after (after f.node.position m) r) f.node.eval (f.depth - 3) (code_of x) ≤ℤ alpha

@@ -29,7 +29,7 @@ pub enum NodeState {
     Expanding,
     /// The answer of the current move.
     AwaitingChild(Move),
-    /// To be left: it is worth this much or more, which is enough.
+    /// To be left: it is worth this much or more, which reaches beta.
     CutOff(i32),
 }
 
@@ -49,9 +49,9 @@ pub struct Frame {
     pub depth: u8,
     /// Set once a move was gone through and not good enough, so that some move is legal.
     pub has_move: bool,
-    /// How many replies were tried for that.
+    /// How many replies were tried for analogous moves.
     pub analogy_tries: u8,
-    /// The last of them.
+    /// The last reply that was tried.
     pub analogy_reply: Option<Move>,
     /// Codes of moves that cut off the last nodes of this place, the last one first.
     pub killers: [u16; KILLERS],
@@ -144,7 +144,7 @@ impl Frame {
         self.analogy_reply = None;
     }
 
-    /// Whether some move is legal, which the position is asked only where it is not known yet.
+    /// Whether some move is legal. Asks the position only if that is not known yet.
     fn can_move(&self) -> bool
         ensures { IsTrue result ↔ (legal_codes self.now.node.position ≢ []) }
     {
@@ -178,7 +178,7 @@ impl Frame {
         }
     }
 
-    /// Asks for the answer of the next move, where there is one.
+    /// Asks for the answer of the next move, if there is one.
     #[inline(always)]
     pub(crate) fn pick_move(&mut self) -> Option<Move>
         requires next { self.old.state ≡ NodeState.Expanding }
@@ -229,7 +229,7 @@ impl Frame {
         (-self.beta, -move_alpha)
     }
 
-    /// Has its window end there while it waits for the answer of a move.
+    /// Sets the end of the window while the node waits for the answer of a move.
     pub fn end_at(&mut self, beta: i32)
         requires asked { IsAsked self.old.state }
         requires open { self.old.best_value <ℤ beta }
@@ -267,8 +267,8 @@ impl Frame {
         }
     }
 
-    /// The current move is worth this much or more, which is enough. It is kept, and no longer the
-    /// best one before it.
+    /// Cuts the node off: the current move is worth this much or more, which reaches beta, and becomes the
+    /// best move.
     fn cut_off(&mut self, current: &Move, value: i32)
         requires current { IsCurrent self.old.state current.now }
         requires worth { value ≤ℤ worth_of self.old current.now }
@@ -282,7 +282,7 @@ impl Frame {
         self.state = NodeState::CutOff(value);
     }
 
-    /// The current move is not worth enough to become the best one.
+    /// Passes the current move, which is not worth enough to become the best one.
     pub fn fail_low(&mut self)
         requires { FailsLow self.old }
         ensures ended { EndsVisit self.old self.new }
@@ -301,8 +301,8 @@ impl Frame {
 }
 
 impl Default for Frame {
-    /// A node at the opening position, which stands where no node is entered yet. It is made once
-    /// and copied, which is less than to write out its fields for each frame.
+    /// A node at the opening position, for places of the stack that hold no entered node. It is made once
+    /// and copied, which costs less than writing out its fields for each frame.
     #[inline(never)]
     fn default() -> Self {
         let node = Node::start(Eval::Plain);

@@ -7,8 +7,8 @@ ghost use Rattle.commuting_moves.specs.Refuted.{AreRefuted};
 ghost use Rattle.search_nodes.specs.Pairs.{AreRefutations};
 
 use crate::frame::{Frame, NodeState};
-use commuting_moves::{Refutation, RefutedMoves};
 use analogous_moves::AnalogousMoves;
+use commuting_moves::{Refutation, RefutedMoves};
 use minimax::Entry;
 use shogi_core::Move;
 
@@ -43,8 +43,8 @@ impl Frame {
     ghost use Rattle.search_nodes.specs.Changes.{EndsVisit, KeepsMoves};
     ghost use Rattle.search_nodes.specs.Frames.{IsConclusiveAfter, IsTrueAfter};
 
-    /// Where the node is cut off, and its parent keeps refuted moves: the reply that cut it off, as one
-    /// that refutes the move that led to the node.
+    /// The reply that cut this node off, as one that refutes the move to the node, if the node is cut off
+    /// and its parent keeps refuted moves.
     #[inline(always)]
     pub fn refutation(&self) -> Option<Refutation>
         requires deep { 1 < self.now.depth }
@@ -62,8 +62,8 @@ impl Frame {
         Some(Refutation { reply, bound })
     }
 
-    /// Keeps a move that a reply refutes here, where such moves are kept and it is not worth more than
-    /// the best one.
+    /// Keeps a move with the reply that refutes it, if this node keeps such moves and the move is worth no
+    /// more than the best one.
     #[inline(never)]
     fn keep_refuted(&mut self, m: &Move, refutation: &Refutation)
         requires { IsRefutedAt self.old m.now refutation.now }
@@ -77,8 +77,7 @@ impl Frame {
         self.refutations = Refutations::Pairs(kept);
     }
 
-    /// Takes in what is known of the current move, and keeps the reply that refutes it, where there is
-    /// one.
+    /// Takes in what is known of the current move, and keeps the reply that refutes it, if there is one.
     #[inline(always)]
     pub fn back_up_with(&mut self, current: &Move, entry: &Entry, refutation: Option<Refutation>)
         requires deep { 1 < self.old.depth }
@@ -94,8 +93,8 @@ impl Frame {
         self.back_up(current, entry);
     }
 
-    /// Whether the other move is surely worth no more than alpha after the move and the reply, where
-    /// they are legal from here one by one, since the reply refutes it here.
+    /// True only if the other move, when all three are legal in turn from here, is worth no more than alpha
+    /// after the move and the reply, since the reply refutes it here.
     #[inline(never)]
     pub fn is_refuted_after(&self, m: &Move, reply: &Move, other: &Move, alpha: i32) -> bool
         ensures { result ≡ true → IsRefutedAfter self.now m.now reply.now other.now alpha }

@@ -33,8 +33,7 @@ impl Frame {
         loss_of_drops(p, p.side().opponent(), self.node.eval())
     }
 
-    /// Turns to the quiet moves where no capture is left, or to the drops where no quiet move on the
-    /// board is.
+    /// Turns to the quiet moves if no capture is left, or to the drops if no quiet board move is left.
     #[inline(always)]
     pub(crate) fn turn_from(&mut self, capture: bool)
         ensures { PrunesFiltered self.old self.new }
@@ -75,8 +74,8 @@ impl Frame {
         asked.is_lost()
     }
 
-    /// Asks for the answer of the next move of such a node, where there is one. The moves that surely
-    /// are not worth enough are pruned.
+    /// Asks for the answer of the next move of a node at depth 2, if there is one. Prunes the moves that
+    /// provably fail low.
     fn next_unpruned(&mut self, cache: &mut ReplyCache) -> Option<Move>
         requires next { self.old.state ≡ NodeState.Expanding }
         requires at { IsPreFrontier self.old cache.old }
@@ -108,8 +107,7 @@ impl Frame {
         matches!(self.refutations, Refutations::Analogous(_))
     }
 
-    /// Looks for moves that the reply refutes, none of which is worth more than so much, if few replies
-    /// were tried.
+    /// Looks for moves that the reply holds to at most this value, unless too many replies were tried.
     fn look_for_analogous(&mut self, reply: &Option<Move>, most: i32)
         requires deep { PrunesAnalogous self.old }
         requires most { most <ℤ INFINITY }
@@ -151,8 +149,8 @@ impl Frame {
         self.depth == 3 || self.depth == 4
     }
 
-    /// Prunes the current move where it is a quiet one that the reply to a move before it refutes as
-    /// well, since it changes nothing of what that leaves; whether it did.
+    /// Prunes the current move if it is a quiet one that the reply to an earlier move refutes as well, since
+    /// it changes nothing that this reply relies on. Returns whether it did.
     fn prune_analogous(&mut self, current: &Move, reply: &Option<Move>) -> bool
         requires asked { self.old.state ≡ NodeState.AwaitingChild current.now }
         ensures next { result ≡ true → self.new.state ≡ NodeState.Expanding }
@@ -201,7 +199,7 @@ impl Frame {
         }
     }
 
-    /// Asks for the answer of the next move from depth 3 on, where analogous moves are pruned.
+    /// Asks for the answer of the next move from depth 3 on, and prunes analogous moves.
     fn next_unrefuted(&mut self, reply: &Option<Move>) -> Option<Move>
         requires next { self.old.state ≡ NodeState.Expanding }
         ensures { AsksFor result self.old self.new }
@@ -215,10 +213,9 @@ impl Frame {
         None
     }
 
-    /// Asks for the answer of the next move, where there is one. At depth 2 the moves that surely are
-    /// not worth enough are pruned, and at depths 3 and 4 quiet moves that change nothing of what the
-    /// reply refutes: the best move of the child before, or the one that cut it off. What the replies
-    /// of the other side are is found at depth 2 alone.
+    /// Asks for the answer of the next move, if there is one. Depth 2 prunes moves that provably fail low.
+    /// Depths 3 and 4 prune quiet moves that the reply refutes too: the best move of the child before, or
+    /// the move that cut it off. Only depth 2 looks at the opponent's replies.
     #[inline(always)]
     pub fn next_move(&mut self, cache: &mut ReplyCache, reply: Option<Move>) -> Option<Move>
         requires next { self.old.state ≡ NodeState.Expanding }

@@ -76,7 +76,7 @@ stack_path s k =
     let t : HasTop s (IsChain s.root s.eval s.depth (negated INFINITY) s.bound (parents_of s)) = has_top s _ k.chain in
     rw (frames_are s t.top t.is) (chain_path _ _ _ _ _ (parents_of s) t.top t.has)
 
--- where a search is under way, the nodes that it has entered and not left are a way down from its root
+-- while a search is under way, its entered nodes lead down from its root
 pub nodes_path : (s : Inside) → IsSearch s → s.started ≡ true → s.found ≡ None → HasPath (progress_of s)
 nodes_path s i b o = record {
   high = s.stack.bound;

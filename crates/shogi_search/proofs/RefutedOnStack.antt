@@ -29,11 +29,11 @@ kept_below s d m found k h fits asks back known =
     let q : IsChild (get_or s.frames (s.height - 1) d) r.top m = same_asked _ _ _ _ r.popped.child asks in
     refuted_at (get_or s.frames (s.height - 1) d) r.top m found asks back q.at_child.position q.at_child.eval q.at_child.depth (on_top s r.top (λ (top : Frame). Refutes top found) r.is known)
 
--- so may its parent, where it is one
+-- its parent keeps such moves too, if it is a node on the stack
 pub kept_at_parent : (f child : Frame) (m : Move) (found : Refutation) → move_of (code_of m) ≡ Some m → IsParentOf child m f → Refutes child found → IsRefutedAt f m found
 kept_at_parent f child m found back p known = refuted_at f child m found p.waits.asked back p.waits.position p.waits.eval p.depth_is known
 
--- the current move of the node on top is not worth enough, where the node two plies earlier says so
+-- the current move of the node on top fails low if the node two plies earlier says so
 pub lost_on_top : (s : Stack) (d d' : Frame) (top : Frame) (m r x : Move) → IsStack s → 1 < s.height → s.height < length s.frames → IsTop s top
     → (get_or s.frames (s.height - 2) d').state ≡ AwaitingChild m → (get_or s.frames (s.height - 1) d).state ≡ AwaitingChild r → OnTop s (AwaitsMove x)
     → move_of (code_of m) ≡ Some m → move_of (code_of r) ≡ Some r → move_of (code_of x) ≡ Some x
@@ -50,4 +50,4 @@ lost_on_top s d d' top m r x k h fits is at_f at_g at_h back_m back_r back_x ref
     let parent : IsChild f g m = same_asked _ _ _ _ two.child at_f in
     of_top s top (λ (t : Frame). IsLost t x) is
     (lost_on_stack f g top m r x at_f at_g (on_top s top (AwaitsMove x) is at_h) back_m back_r back_x parent.at_child.position child.at_child.position (child.at_child.eval ∙ parent.at_child.eval)
-        (omega (arith, child.at_child.depth, child.at_child.deep, parent.at_child.depth, parent.at_child.deep)) child.at_child.deep refuted)
+    (omega (arith, child.at_child.depth, child.at_child.deep, parent.at_child.depth, parent.at_child.deep)) child.at_child.deep refuted)

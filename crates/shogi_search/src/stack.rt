@@ -49,7 +49,7 @@ fn is_conclusive(entry: &Entry, alpha: i32, beta: i32) -> bool
     }
 }
 
-/// The memo's answer for a position, where it says enough for a window.
+/// The memo's answer for a position, if it is enough for a window.
 pub fn probe<M: Memo>(
     p: &Position,
     e: Eval,
@@ -83,8 +83,8 @@ pub fn answer_at_once(node: &Node, depth: u8, alpha: i32, beta: i32) -> Entry
     last_ply(node, alpha, beta)
 }
 
-/// Whether a root's moves after the first best one are asked under narrow windows: at the depths where
-/// that saves more than it costs.
+/// Whether a root's moves after the first best one are asked under narrow windows. At other depths that
+/// costs more than it saves.
 fn is_narrowed(depth: u8) -> bool {
     depth == 3 || depth >= DEEP_ROOT_MIN
 }
@@ -95,7 +95,7 @@ fn is_noted_anyway(depth: u8, entry: &Entry) -> bool {
     depth == 2 && matches!(entry, Entry::Exact(_, _))
 }
 
-/// What every node of the depth is worth at least or at most, where that is enough for the window.
+/// What every node of the depth is worth at least or at most, if that is enough for the window.
 fn mate_distance_bound(depth: u8, alpha: i32, beta: i32) -> Option<Entry>
     ensures truth { IfSome result (IsTrueAnywhere depth) }
     ensures conclusive { IfSome result (IsConclusive alpha beta) }
@@ -111,8 +111,8 @@ fn mate_distance_bound(depth: u8, alpha: i32, beta: i32) -> Option<Entry>
     None
 }
 
-/// What is known of a child that is not entered: one with one ply left or none, or one of which the
-/// memo knows enough, where its depth serves the memo.
+/// What is known of a child that is not entered: one with at most one ply left, or one whose depth
+/// serves the memo and of which the memo knows enough.
 #[tactic(auto, using(crate::proofs::CallLaws::only_asks_none, crate::proofs::CallLaws::only_asks_one))]
 fn answer_of<M: Memo>(node: &Node, depth: u8, alpha: i32, beta: i32, memo: &mut M) -> Option<Entry>
     requires open { alpha <ℤ beta }
@@ -130,7 +130,7 @@ fn answer_of<M: Memo>(node: &Node, depth: u8, alpha: i32, beta: i32, memo: &mut 
     probe(node.as_position(), node.eval(), depth, alpha, beta, memo)
 }
 
-/// The best move one ply less deep, where the memo has it.
+/// The best move one ply less deep, if the memo has it.
 #[tactic(auto, using(crate::proofs::CallLaws::only_asks_none, crate::proofs::CallLaws::only_asks_one))]
 pub fn hash_move_of<M: Memo>(p: &Position, e: Eval, depth: u8, memo: &mut M) -> Option<Move>
     ensures shallow { depth < 2 → result ≡ None }
@@ -146,7 +146,7 @@ pub fn hash_move_of<M: Memo>(p: &Position, e: Eval, depth: u8, memo: &mut M) -> 
     }
 }
 
-/// The same for a node below the root, where the depth below it serves the memo.
+/// The hash move of a node below the root, if the depth below it serves the memo.
 #[tactic(auto, using(crate::proofs::CallLaws::only_asks_none))]
 fn child_hash_move_of<M: Memo>(p: &Position, e: Eval, depth: u8, memo: &mut M) -> Option<Move>
     ensures { OnlyAsks M.Memo memo.old memo.new 1 }
@@ -158,8 +158,8 @@ fn child_hash_move_of<M: Memo>(p: &Position, e: Eval, depth: u8, memo: &mut M) -
 }
 
 impl Stack {
-    /// Where a root is on top that is narrowed and has a best move, its window ends one above
-    /// what that is worth: a child that is worth more is only known to be, and is entered again.
+    /// If a narrowed root with a best move is on top, ends its window one above that move's value. A child
+    /// that is worth more is then only known to be, and is entered again.
     fn narrow(&mut self)
         requires { IsStackWith self.old (λ top. IsAsked top.state) }
         ensures stack { IsStack self.new }
@@ -228,8 +228,8 @@ impl Stack {
         self.reply_cache = ReplyCache::unknown(node.as_position());
     }
 
-    /// The root takes in what is known of the child on top, where that is enough for its whole
-    /// window; else that child is entered again under it.
+    /// The root takes in what is known of the child on top, if that is enough for its whole window;
+    /// otherwise that child is entered again under it.
     #[inline(never)]
     fn leave_narrow<M: Memo>(&mut self, entry: &Entry, counter_moves: &CounterMoves, memo: &mut M)
         requires narrow { IsNarrow self.old }
@@ -249,8 +249,8 @@ impl Stack {
         self.push(&current, &node, counter_moves, memo);
     }
 
-    /// The node below the top takes in what is known of the node on top, where there is one. A child
-    /// of the root that was asked under a narrow window may be entered again.
+    /// The node below the top, if there is one, takes in what is known of the node on top. A child of the
+    /// root that was asked under a narrow window may be entered again.
     #[inline(always)]
     fn pop<M: Memo>(&mut self, entry: &Entry, counter_moves: &CounterMoves, memo: &mut M) -> bool
         requires { IsWholeWith self.old (λ top. IsEntryOf top entry.now) }
@@ -288,9 +288,10 @@ impl Stack {
             return false;
         }
         let (earlier, below) = (&self.frames[self.height - 2], &self.frames[self.height - 1]);
-        let (NodeState::AwaitingChild(m), NodeState::AwaitingChild(reply)) =
-            (&earlier.state, &below.state)
-        else {
+        let (NodeState::AwaitingChild(m), NodeState::AwaitingChild(reply)) = (
+            &earlier.state,
+            &below.state,
+        ) else {
             return false;
         };
         m.reveal_invariant();
@@ -358,8 +359,8 @@ impl Stack {
         }
     }
 
-    /// Tells the memo what is known of the node on top, where that is the root, serves the memo, or is
-    /// noted anyway.
+    /// Tells the memo what is known of the node on top, if that is the root, serves the memo, or is noted
+    /// anyway.
     fn store_top<M: Memo>(&self, entry: &Entry, memo: &mut M)
         requires { IsStackWith self.now (λ top. IsTrueOf top entry.now) }
         ensures root { NotesRoot M.called memo.old memo.new self.now entry.now }
@@ -372,8 +373,8 @@ impl Stack {
         }
     }
 
-    /// Where the node on top is cut off, keeps the move that cut it off as the reply to the one that
-    /// led to it.
+    /// If the node on top is cut off, keeps the move that cut it off as the reply to the one that led to
+    /// it.
     #[inline(always)]
     fn keep_counter_move(&self, counter_moves: &mut CounterMoves) {
         if self.height == 0 || self.height >= self.frames.len() {
@@ -391,7 +392,7 @@ impl Stack {
         }
     }
 
-    /// Leaves the node on top, and gives what is known of the root where that was it.
+    /// Leaves the node on top. Returns what is known of the root if that was the node.
     #[inline(always)]
     fn leave<M: Memo>(&mut self, counter_moves: &mut CounterMoves, memo: &mut M) -> Option<Entry>
         requires { IsWholeWith self.old (λ top. IsToBeLeft top) }
@@ -419,7 +420,7 @@ impl Stack {
         None
     }
 
-    /// Makes one step; gives what is known of the root where that was left.
+    /// Makes one step. Returns what is known of the root if the step left it.
     fn step<M: Memo>(&mut self, counter_moves: &mut CounterMoves, memo: &mut M) -> Option<Entry>
         requires { IsReady self.old }
         ensures { IsStep M.Memo memo.old memo.new self.old result self.new }
@@ -436,7 +437,7 @@ impl Stack {
         self.leave(counter_moves, memo)
     }
 
-    /// Makes so many steps, or fewer where the root was left, and counts them.
+    /// Makes this many steps, or fewer if the root is left, and counts them.
     pub fn run<M: Memo>(
         &mut self,
         counter_moves: &mut CounterMoves,

@@ -28,8 +28,14 @@ back_up_with-requires g c =
     let fits : s.height < length s.frames = omega (arith, c.requires.stack.height_fits) in
     let known = entry_below s _ _ _ c.requires.stack some fits c.in-AwaitingChild.is c.requires.top in
     let top : Frame = get_or s.frames s.height c.index-self-self.result in
-    record { deep = below_deep s _ c.requires.stack some fits; current = asked _ _ c.in-AwaitingChild.is; truth = known.truth; conclusive = known.conclusive; refuted = some_map c.refutation-refutation.result (λ found. Refutes top found) (λ found. IsRefutedAt (get_or s.frames (s.height - 1) c.index-self-self-2.result) c.in-AwaitingChild.current found)
-    (λ found known. kept_below s _ c.in-AwaitingChild.current found c.requires.stack some fits c.in-AwaitingChild.is c.reveal_invariant.ensures.back (of_top s top (λ (f : Frame). Refutes f found) (read_top s c.index-self-self.result fits) known)) c.refutation-refutation.ensures }
+    record {
+      deep = below_deep s _ c.requires.stack some fits;
+      current = asked _ _ c.in-AwaitingChild.is;
+      truth = known.truth;
+      conclusive = known.conclusive;
+      refuted = some_map c.refutation-refutation.result (λ found. Refutes top found) (λ found. IsRefutedAt (get_or s.frames (s.height - 1) c.index-self-self-2.result) c.in-AwaitingChild.current found)
+          (λ found known. kept_below s _ c.in-AwaitingChild.current found c.requires.stack some fits c.in-AwaitingChild.is c.reveal_invariant.ensures.back (of_top s top (λ (f : Frame). Refutes f found) (read_top s c.index-self-self.result fits) known)) c.refutation-refutation.ensures;
+    }
 
 pub refutation-refutation-requires : goal.refutation-refutation-requires
 refutation-refutation-requires g c = record { deep = top_deep c.args.self.now _ (read_top c.args.self.now c.index-self-self.result (omega (arith, c.requires.stack.height_fits))) c.requires.stack }
