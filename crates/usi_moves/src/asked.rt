@@ -17,7 +17,7 @@ pub fn position_of_text(text: &[u8]) -> Result<Position, Refusal>
 {
     let mut rest = words(text);
     match rest.next() {
-        Some(b"startpos") => position_of_startpos(rest.rest()),
+        Some(word) if word == b"startpos".as_slice() => position_of_startpos(rest.rest()),
         _ => position_of_sfen(text),
     }
 }
