@@ -1,4 +1,5 @@
 pub mod Appending
 pub mod Left
+pub mod Telling
 pub mod SolutionLaws
 mod AnswerLaws

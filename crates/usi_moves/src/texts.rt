@@ -1,9 +1,10 @@
 //! What `moves` and `perft` print.
 
-ghost use Rattle.std.specs.Prelude.{◌≡◌, ◌≤◌, ◌<◌, ◌^◌, OnOk};
+ghost use Rattle.std.specs.Prelude.{◌≡◌, ◌≤◌, ◌<◌, ◌^◌, ℕ, List, [], ◌∷◌, OnOk, Option, None};
 ghost use Rattle.shogi_core.specs.Codes.{code_of};
-ghost use Rattle.shogi_moves.specs.LegalMoves.{perft};
+ghost use Rattle.shogi_moves.specs.LegalMoves.{legal_codes, perft};
 ghost use Rattle.usi_moves.specs.Listings.{Appends, IsTooMany, count_text, move_line, moves_text, perft_text, share_text};
+ghost use Rattle.usi_moves.specs.Told.{AreTold, IsTold};
 ghost use Rattle.usi_moves.specs.declared.texts.CountFault.TheVariants.{OutOfMemory, TooMany};
 
 use itoa::Buffer;
@@ -87,13 +88,18 @@ fn write_share<A: Allocator>(
 
 /// Follows a count as it goes on, without a part in it.
 pub trait Progress {
+    /// The codes of the moves that it was told, in order; `None` if it does not report.
+    ghost told: { Self → Option (List ℕ) } = { λ _. None };
+
     /// All sequences that begin with this move are counted.
-    fn counted(&mut self, m: &Move);
+    fn counted(&mut self, m: &Move)
+        ensures told { IsTold (told self.old) (told self.new) (code_of m.now ∷ []) };
 }
 
 /// Appends the number of sequences of `depth` legal moves, 1 to 16, on a line. If the count is
 /// divided, a line for each first move with its count comes before, by rising code. Fails with
 /// `TooMany` if the number is 2^64 or more; on an error some first bytes of this may be appended.
+/// `progress` is told each first move by rising code, once it is counted.
 pub fn write_perft<A: Allocator, P: Progress>(
     out: &mut Vec<u8, A>,
     p: &Position,
@@ -106,6 +112,7 @@ pub fn write_perft<A: Allocator, P: Progress>(
     ensures ok { Appends result out.old out.new (perft_text p.now depth divide) }
     ensures fits { OnOk result (perft p.now depth < 2 ^ 64) }
     ensures too_many { IsTooMany p.now depth result }
+    ensures told { AreTold result (P.told progress.old) (P.told progress.new) (legal_codes p.now) }
 {
     let mut total: u64 = 0;
     let mut walk = Walk::new(p);

@@ -1,10 +1,12 @@
-use Rattle.std.proofs.Common.{rules, arith, refl, ap, ◌∙◌, ◌≡◌, ◌≤◌, ◌-◌, ◌^◌, ◌++◌, append_assoc}
+use Rattle.std.proofs.Common.{rules, [], ◌∷◌, arith, refl, ap, subst, ◌∙◌, ◌≡◌, ◌≤◌, ◌-◌, ◌^◌, ◌++◌, append_assoc}
 use Rattle.shogi_core.specs.Codes.{code_of}
 use Rattle.shogi_moves.specs.After.{after_code}
 use Rattle.shogi_moves.specs.LegalMoves.{legal_codes, perft}
 use Rattle.shogi_moves.proofs.PerftLaws.{perft_first, perft_last, perft_by-left, fewer_left}
 use Rattle.usi_moves.specs.Listings.{count_text, share_text, shares_text}
 use Rattle.usi_moves.proofs.Left.{left, none_left}
+use Rattle.usi_moves.proofs.Telling.{no_more, one_more, told_first, told_none, told_then}
+use Rattle.usi_moves.specs.Told.{IsTold}
 use Rattle.usi_moves.proofs.texts.write_perft.Goals as goal
 
 pub moves-init : goal.moves-init
@@ -13,6 +15,7 @@ moves-init g c = record {
   same = c.new-walk.ensures.position;
   fits = omega arith;
   text = search rules;
+  told = ([], (search rules, told_none (g.P.Progress.told c.args.progress.now)));
 }
 
 pub advance-requires : goal.advance-requires
@@ -48,7 +51,32 @@ moves-preserved g c =
           c.in-Some.ensures.next
           (c.in_ok-write_share.ensures ∙ ap (λ n. c.moves.out.items ++ share_text c.args.divide (code_of c.in-Some.m) n) share)
           c.moves.invariant.text;
+      told = (
+        c.moves.invariant.told.0 ++ (code_of c.in-Some.m ∷ []),
+        (
+          one_more c.moves.invariant.told.0 c.moves.walk.codes c.next.new.self.codes (legal_codes c.args.p.now) (code_of c.in-Some.m) c.in-Some.ensures.next c.moves.invariant.told.1.0,
+          told_then (g.P.Progress.told c.args.progress.now) (g.P.Progress.told c.moves.progress) (g.P.Progress.told c.counted.new.self) c.moves.invariant.told.0 (code_of c.in-Some.m ∷ []) c.moves.invariant.told.1.1 c.counted.ensures.told,
+        ),
+      );
     }
+
+-- after an error the moves before this one were told
+pub returns-in_default-perft-clause-told : goal.returns-in_default-perft-clause-told
+returns-in_default-perft-clause-told g c = (c.moves.invariant.told.0, (c.moves.walk.codes, c.moves.invariant.told.1))
+
+pub returns-in_default-checked_add-clause-told : goal.returns-in_default-checked_add-clause-told
+returns-in_default-checked_add-clause-told g c = (c.moves.invariant.told.0, (c.moves.walk.codes, c.moves.invariant.told.1))
+
+pub returns-in_err-write_share-clause-told : goal.returns-in_err-write_share-clause-told
+returns-in_err-write_share-clause-told g c = told_first _ _ _ c.from_residual.result c.from_residual.ensures.0 (c.moves.invariant.told.0, (c.moves.walk.codes, c.moves.invariant.told.1))
+
+pub returns-in_err-write_count-clause-told : goal.returns-in_err-write_count-clause-told
+returns-in_err-write_count-clause-told g c = told_first _ _ _ c.from_residual-in_err-write_count.result c.from_residual-in_err-write_count.ensures.0 (c.moves.invariant.told.0, (c.moves.walk.codes, c.moves.invariant.told.1))
+
+pub returns-clause-told : goal.returns-clause-told
+returns-clause-told g c =
+    subst (λ codes. IsTold (g.P.Progress.told c.args.progress.now) (g.P.Progress.told c.moves.progress) codes)
+    (no_more c.moves.invariant.told.0 c.moves.walk.codes (legal_codes c.args.p.now) c.in_default.ensures.next.0 c.moves.invariant.told.1.0) c.moves.invariant.told.1.1
 
 pub returns-clause-ok : goal.returns-clause-ok
 returns-clause-ok g c =
