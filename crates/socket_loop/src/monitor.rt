@@ -19,7 +19,7 @@ impl<W, S: BuildHasher, A: Allocator + Copy> Monitor<W, S, A> for NoMonitor {
     fn after_turn(&mut self, _turn: &Turn, _host: &Host<S, A>, _connections: &Loop<A>, _wire: &W) {}
 }
 
-/// A monitor, where there is one.
+/// A monitor that may be absent.
 impl<W, S: BuildHasher, A: Allocator + Copy, M: Monitor<W, S, A>> Monitor<W, S, A> for Option<M> {
     fn after_turn(&mut self, turn: &Turn, host: &Host<S, A>, connections: &Loop<A>, wire: &W) {
         if let Some(monitor) = self {

@@ -11,9 +11,9 @@ use std::alloc::Allocator;
 use std::hash::BuildHasher;
 use transport::{Wire, WireFault};
 
-/// Takes so many turns, shows each to the monitor, and waits after each of them, the last one too:
-/// until something may be ready where the turn did not move, and not at all where it did. A wait that
-/// fails ends it, with its fault.
+/// Takes `turns` turns, shows each to the monitor, and waits after each, the last one too. If the turn did
+/// not move, the wait lasts until something may be ready; otherwise it does not block. A wait that fails
+/// ends the loop with its fault.
 /// Each connection of the loop is accepted from this wire and each session opened in this host.
 pub fn serve<W: Wire, S: BuildHasher, A: Allocator + Copy, M: Monitor<W, S, A>>(
     host: &mut Host<S, A>,

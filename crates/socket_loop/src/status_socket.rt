@@ -102,7 +102,7 @@ impl<A: Allocator + Copy> StatusSocket<A> {
         }
     }
 
-    /// Makes the line of now. There is none where memory is refused.
+    /// Makes the status line of this turn; without memory there is none.
     fn tell<S: BuildHasher>(&mut self, host: &Host<S, A>, connections: &Loop<A>, wire: &MioWire<A>)
         ensures process { self.new.process ≡ self.old.process }
         ensures limits { self.new.limits ≡ self.old.limits }

@@ -1,4 +1,4 @@
-//! Those who ask for a status.
+//! Clients that ask for the status.
 
 use std::io::ErrorKind;
 use stream_transport::{Socket, Watcher};
@@ -6,12 +6,12 @@ use stream_transport::{Socket, Watcher};
 /// How many are answered after a turn.
 pub const ANSWERS: usize = 16;
 
-/// The listener of a status. It is asked only after a poll has named it, or where it owes an answer.
+/// The listener of the status socket. It is asked only after a poll has named it, or while it owes an answer.
 #[derive(Drop)]
 pub struct Visitors<V: Watcher> {
     listener: V::Listener,
     watcher: V,
-    // A descriptor that is given up where there is none for a visitor, and opened again afterwards.
+    // Given up when no descriptor is left for a visitor, and opened again afterwards.
     spare: Option<V::Spare>,
     // An accept failed, and somebody may wait.
     owes: bool,
@@ -26,7 +26,7 @@ fn tell<S: Socket>(client: &mut S, line: &[u8]) {
     let _taken = client.write_some(line);
 }
 
-/// Accepts who waits first. `None` where nobody does, and an error where somebody may.
+/// Accepts the first visitor that waits. `None` if nobody waits; an error if somebody may.
 fn accept_from<V: Watcher>(
     watcher: &mut V,
     listener: &mut V::Listener,
@@ -55,7 +55,7 @@ impl<V: Watcher> Visitors<V> {
         }
     }
 
-    /// Accepts who waits first. Where that fails the spare descriptor is given up for a second try.
+    /// Accepts the first visitor that waits. If that fails, gives up the spare descriptor and tries again.
     fn accept(&mut self) -> Option<V::Stream> {
         let mut accepted = accept_from(&mut self.watcher, &mut self.listener);
         if accepted.is_err() && self.spare.is_some() {
@@ -72,21 +72,21 @@ impl<V: Watcher> Visitors<V> {
         }
     }
 
-    /// Has the next wait end at once where somebody waits.
+    /// Makes the next wait end at once if somebody waits.
     fn watch_again(&mut self) {
         let _watched = self.watcher.watch_again(&mut self.listener);
     }
 
-    /// Opens the spare descriptor, where it was given up.
+    /// Opens the spare descriptor again if it was given up.
     fn keep_spare(&mut self) {
         if self.spare.is_none() {
             self.spare = self.watcher.spare().ok();
         }
     }
 
-    /// Who waits first, where a poll has named the listener since, by the number of its visits, or an
-    /// answer is owed. After a failure it is tried at the next visit, and in the turn after the wait that
-    /// follows, which is bounded.
+    /// The first visitor that waits, if a poll has named the listener since the last call, by the number
+    /// of its visits, or an answer is owed. A failed accept is tried again at the next visit, and in the
+    /// turn after the next wait, which is bounded.
     pub fn next_after(&mut self, visits: u64) -> Option<V::Stream> {
         let is_named = visits != self.visits;
         if !(is_named | self.owes) {
@@ -114,7 +114,7 @@ impl<V: Watcher> Visitors<V> {
         self.keep_spare();
     }
 
-    /// Answers those who wait, one fewer than `ANSWERS`. Where more may wait the next wait ends at once.
+    /// Answers up to `ANSWERS - 1` more visitors. If more may wait, the next wait ends at once.
     fn answer_others(&mut self, line: &[u8]) {
         for _ in 1..ANSWERS {
             let Some(visitor) = self.accept() else {

@@ -67,9 +67,9 @@ pub fn listing<E: Eprint, A: Allocator + Copy, T: FrontEnd>(
     }
 }
 
-/// Counts the sequences of legal moves from the position that a text asks for, over a front end. Gives
-/// the status, and tells standard error of a fault; and where `tells` is set, at most once a second,
-/// which first move the count has reached.
+/// Counts the sequences of legal moves from the position that a text asks for, over a front end. Returns
+/// the status, and tells standard error of a fault. If `tells` is set, standard error also has, at most
+/// once a second, the first move that the count has reached.
 pub fn counting<E: Eprint + Clock, A: Allocator + Copy, T: FrontEnd>(
     errors: &E,
     alloc: A,

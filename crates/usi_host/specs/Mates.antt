@@ -11,7 +11,7 @@ pub record AreMateOptions (plies : ℕ) (with_line with_keys : Bool) (options : 
   pub tells_line : options.line ≡ with_line
   pub tells_keys : options.keys ≡ with_keys
 
--- so the position of a text was solved, or, without one, that of each line, with this status
+-- the position of the text was solved, or without a text that of each line, with this status
 abbrev pub IsMateAsked : Option (List ℕ) → ℕ → Bool → Bool → StdioReport → StdioReport → ℕ → Type 0
 IsMateAsked sfen plies with_line with_keys old new status =
     (options : MateOptions) × AreMateOptions plies with_line with_keys options

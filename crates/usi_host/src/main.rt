@@ -70,7 +70,7 @@ fn run_socket(
     serve_host(rt, &mut host, socket, status, limits, turns)
 }
 
-/// The bytes of a text, where there is one.
+/// The bytes of a text, if there is one.
 fn bytes_of(text: &Option<String>) -> Option<&[u8]>
     ensures { option_map (λ bytes. bytes.now) result ≡ option_map string_bytes text.now }
 {
@@ -80,8 +80,8 @@ fn bytes_of(text: &Option<String>) -> Option<&[u8]>
     }
 }
 
-/// Does what the arguments of the command line ask for. The status is 0 where it was done, 1 where
-/// it ended early, 2 where the arguments are not accepted, and 3 where a script has a bad line.
+/// Does what the arguments of the command line ask for. The status is 0 if that was done, 1 if it ended
+/// early, 2 if the arguments are not accepted, and 3 if a script has a bad line.
 fn main(rt: HostRuntime) -> ExitCode {
     let mut ends = Duplex::new(rt.reader(), io::writer(&rt));
     let status = match asked(&rt) {

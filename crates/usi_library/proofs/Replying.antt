@@ -12,7 +12,7 @@ owes_call (Feed bytes) old new made x = sym (made.0 x)
 owes_call Work old new made x = sym (made x)
 owes_call (Take count) old new made x = made.0 x
 
--- and so do any calls
+-- a sequence of calls takes the first bytes of what is owed
 owes_calls : (old : SessionView) (steps : List Step) (new : SessionView) → AreMade old steps new → (x : List ℕ) → due old (all_fed steps ++ x) ≡ all_taken old steps ++ due new x
 owes_calls old [] new made x = ap (λ (s : SessionView). due s x) (sym made)
 owes_calls old (step ∷ rest) new made x =
@@ -31,6 +31,6 @@ replies_by_calls setup steps now made =
       left = due now [];
       prefix = whole;
       all = λ settled empty.
-      sym (append-nil (all_taken first steps))
-      ∙ (ap (λ (xs : List ℕ). all_taken first steps ++ xs) (sym (due-settled now settled ∙ empty)) ∙ whole);
+          sym (append-nil (all_taken first steps))
+          ∙ (ap (λ (xs : List ℕ). all_taken first steps ++ xs) (sym (due-settled now settled ∙ empty)) ∙ whole);
     }

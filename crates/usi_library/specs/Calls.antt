@@ -37,11 +37,11 @@ abbrev pub IsFed : List ℕ → SessionView → SessionView → Type 0
 IsFed bytes old new = IsSameAfter due bytes old new × IsSameAfter state_due bytes old new
     × (new.queued ≡ old.queued) × (new.state ≡ old.state) × (new.go_task ≡ old.go_task)
 
--- where the status is `USI_OK` the bytes were fed
+-- if the status is `USI_OK`, the bytes were fed
 abbrev pub IsFedOnOk : List ℕ → ℕ → SessionView → SessionView → Type 0
 IsFedOnOk bytes status old new = status ≡ USI_OK → IsFed bytes old new
 
--- the status where these bytes were fed to an open session: that they are too many is said before that none are wanted
+-- the status when these bytes are fed to an open session: that they are too many is said before that none are wanted
 pub record AnswersFeed (bytes : List ℕ) (status : ℕ) (old : SessionView) : Type 0 where
   pub too_long : CHUNK_MAX < length bytes → status ≡ USI_TOO_LONG
   pub not_wanted : length bytes ≤ CHUNK_MAX → wants_input old ≡ false → status ≡ USI_NOT_WANTED
@@ -55,15 +55,15 @@ LowersLoad count old new = count + load new ≤ load old
 abbrev pub QueuesLines : SessionView → SessionView → Type 0
 QueuesLines old new = GrowsByLines old.queued new.queued
 
--- where these steps are as many as the load, nothing is pending after a success
+-- if the steps are as many as the load, nothing is pending after a success
 abbrev pub Settles : {A E : Type 0} → ℕ → Result A E → SessionView → SessionView → Type 0
 Settles steps result old new = load old ≤ steps → OnOk result (is_pending new ≡ false)
 
--- where the work was done and something is pending still, all of these steps were made
+-- if the work was done and something is still pending, all of the steps were made
 abbrev pub SpendsAll : ℕ → UsiAnswer → SessionView → Type 0
 SpendsAll steps answer new = answer.status ≡ USI_OK → HasSpent new steps answer.count
 
--- where the work was done and these steps were as many as the load, nothing is pending
+-- if the work was done and the steps were as many as the load, nothing is pending
 abbrev pub IsEnough : ℕ → UsiAnswer → SessionView → SessionView → Type 0
 IsEnough steps answer old new =
     load old ≤ steps → answer.status ≡ USI_OK → is_pending new ≡ false
@@ -74,7 +74,7 @@ HoldsOf None new holds = Unit {0}
 HoldsOf (Some old) None holds = ⊥
 HoldsOf (Some old) (Some new) holds = holds old new
 
--- where it was open, it is open still, and this holds of its session before and after
+-- if the session was open, it is still open, and this holds of it before and after
 abbrev pub WhereOpen : UsiSession → UsiSession → (SessionView → SessionView → Type 0) → Type 0
 WhereOpen old new holds =
     HoldsOf (open_in old) (open_in new) (λ before after. holds before.session after.session)
@@ -90,11 +90,11 @@ TellsTable old new =
     EndsSearches IsUsed old.table new.table old.session new.session
     × (new.table.capacity ≡ old.table.capacity)
 
--- the same of what is open in a session of C
+-- this holds of what is open in a session of C
 abbrev pub TellsItsTable : UsiSession → UsiSession → Type 0
 TellsItsTable old new = HoldsOf (open_in old) (open_in new) TellsTable
 
--- where its table has the value of all that it has still to search, along pvs with one line, the work makes no step, and nothing
+-- if the table has the value of all that is left to search, along pvs with one line, the work makes no step and leaves nothing pending
 -- is pending once it is done
 abbrev pub NeedsNoStep : UsiAnswer → UsiSession → UsiSession → Type 0
 NeedsNoStep answer old new =
@@ -108,7 +108,7 @@ IsTaken n old new = ((x : List ℕ) → due old x ≡ take n old.queued ++ due n
     × (new.queued ≡ drop n old.queued) × (new.state ≡ old.state)
     × (new.go_task ≡ old.go_task) × (new.input ≡ old.input)
 
--- so many queued bytes, as many as there are and as there is room for, were taken, and are the front of a buffer now, whose rest is
+-- the queued bytes that fit were taken, and are a prefix of the buffer, whose rest stays
 -- as it was
 pub record IsMoved (before after : List ℕ) (count : ℕ) (old new : SessionView) : Type 0 where
   pub most : count ≡ min (length before) (length old.queued)
@@ -121,7 +121,7 @@ IsOpened setup entries old None = ⊥
 IsOpened setup entries old (Some new) =
     (old ≡ None) × (new.session ≡ new_session_under setup) × (new.table ≡ new_table entries)
 
--- the same of what is open in a session of C
+-- this holds of what is open in a session of C
 abbrev pub OpensUnder : Setup → ℕ → UsiSession → UsiSession → Type 0
 OpensUnder setup entries old new = IsOpened setup entries (open_in old) (open_in new)
 

@@ -7,7 +7,7 @@ use Rattle.std.specs.Prelude.{Option, None, Some}
 use Rattle.std.specs.contracts.impls.GlobalAllocator.TheImpl.{ghosts}
 use Rattle.std.specs.Box.Ownership.{box_owns}
 
--- the value and the right to free its block, where there is one
+-- the value and the right to free its block, if there is one
 module _ (R : RattleType) (alloc : Global) (at : Ptr) where
   abbrev pub holds : Option R.Denot → Fml
   holds None = ftrue

@@ -10,7 +10,7 @@ use Rattle.usi_texts.specs.declared.setup.SetupFault.TheVariants as faults
 use Rattle.usi_library.specs.declared.setup.TheConstants.{USI_EVAL_PLAIN, USI_EVAL_HAND, USI_EVAL_EXCHANGE}
 use Rattle.usi_library.specs.declared.status.TheConstants.{USI_UNKNOWN_EVAL, USI_DEPTH_OUT_OF_RANGE, USI_MAX_DEPTH_OUT_OF_RANGE, USI_LINES_OUT_OF_RANGE, USI_DEPTH_ABOVE_MAX}
 
--- the evaluation of a number, or none where it has none
+-- the evaluation of a number; none if the number names none
 abbrev pub eval_of : ℕ → Option Eval
 eval_of number =
     cond (number == USI_EVAL_PLAIN) (Some Plain)

@@ -73,8 +73,8 @@ fn open(session: &mut UsiSession, alloc: Global, setup: Setup, entries: usize) -
 }
 
 /// Opens a closed session: the opening position, each option at its default, and an empty table for
-/// so many entries, from 1 to 1,000,000. `USI_OUT_OF_RANGE` is answered before `USI_IS_OPEN`, and
-/// `USI_OUT_OF_MEMORY` where allocation failed; each of them leaves the session as it was.
+/// `entries` entries, from 1 to 1,000,000. `USI_OUT_OF_RANGE` comes before `USI_IS_OPEN`, and
+/// `USI_OUT_OF_MEMORY` if allocation failed; each of them leaves the session as it was.
 #[unsafe(no_mangle)]
 pub extern "C" fn usi_open(session: &mut UsiSession, alloc: Global, entries: usize) -> u32
     ensures opened { result ≡ USI_OK → Opens entries session.old session.new }
@@ -91,13 +91,12 @@ pub extern "C" fn usi_open(session: &mut UsiSession, alloc: Global, entries: usi
     open(session, alloc, Setup::new(), entries)
 }
 
-/// Opens a closed session as `usi_open` does, under a setup: `depth` is where its option Depth begins,
-/// from 1 to 16, `max_depth` the greatest depth of a search, from 1 to 16, `lines` where its option
-/// MultiPV begins, from 1 to 8, and `eval` where its option Eval begins, a number as `USI_EVAL_PLAIN`.
-/// `USI_OUT_OF_RANGE` for the entries is answered first; then `USI_UNKNOWN_EVAL`,
-/// `USI_DEPTH_OUT_OF_RANGE`, `USI_MAX_DEPTH_OUT_OF_RANGE`, `USI_LINES_OUT_OF_RANGE` and
-/// `USI_DEPTH_ABOVE_MAX`, in this order; then `USI_IS_OPEN`, and `USI_OUT_OF_MEMORY` where allocation
-/// failed. Each of them leaves the session as it was.
+/// Opens a closed session as `usi_open` does, under a setup: `depth` (1 to 16), `lines` (1 to 8) and `eval`
+/// (a number as `USI_EVAL_PLAIN`) are the first values of the options Depth, MultiPV and Eval, and
+/// `max_depth` (1 to 16) is the greatest depth of a search. `USI_OUT_OF_RANGE` for the entries comes
+/// first; then `USI_UNKNOWN_EVAL`, `USI_DEPTH_OUT_OF_RANGE`, `USI_MAX_DEPTH_OUT_OF_RANGE`,
+/// `USI_LINES_OUT_OF_RANGE` and `USI_DEPTH_ABOVE_MAX`, in this order; then `USI_IS_OPEN`, and
+/// `USI_OUT_OF_MEMORY` if allocation failed. Each of them leaves the session as it was.
 #[unsafe(no_mangle)]
 pub extern "C" fn usi_open_with_setup(
     session: &mut UsiSession,
@@ -129,7 +128,7 @@ pub extern "C" fn usi_open_with_setup(
     }
 }
 
-/// Closes a session and gives its memory back. `USI_CLOSED` where it was closed already.
+/// Closes a session and gives its memory back. `USI_CLOSED` if it was closed already.
 #[unsafe(no_mangle)]
 pub extern "C" fn usi_close(session: &mut UsiSession) -> u32
     ensures closed { open_in session.new ≡ None }
@@ -161,10 +160,10 @@ pub extern "C" fn usi_feed(session: &mut UsiSession, bytes: &[u8]) -> u32
     status
 }
 
-/// Answers what is pending, with at most so many steps of search, and counts the steps made. Where
-/// something is pending still, the steps were used up. The table of the session is told what each
-/// search found, and with one line no step is made for what it has exactly. After `USI_OUT_OF_MEMORY`, which counts none, what is owed is as it was, and the
-/// next call continues.
+/// Answers what is pending, with at most `steps` steps of search, and counts the steps made. If something
+/// is still pending, the steps were used up. The session's table is told what each search found; with one
+/// line, no step is made for what it has exactly. After `USI_OUT_OF_MEMORY`, which counts none, the
+/// session owes what it owed, and the next call continues.
 #[unsafe(no_mangle)]
 pub extern "C" fn usi_work(session: &mut UsiSession, steps: u64) -> UsiAnswer
     ensures closed { open_in session.old ≡ None → result ≡ closed_answer }
@@ -222,7 +221,7 @@ pub extern "C" fn usi_take(session: &mut UsiSession, buffer: &mut [u8]) -> UsiAn
     }
 }
 
-/// What there is of a session: all zero where it is closed. It changes nothing.
+/// The state of a session: all zero if it is closed. It changes nothing.
 #[unsafe(no_mangle)]
 pub extern "C" fn usi_look(session: &mut UsiSession) -> UsiLook
     ensures closed { open_in session.old ≡ None → IsNothing result }

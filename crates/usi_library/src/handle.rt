@@ -8,7 +8,7 @@ use crate::opened::Opened;
 use std::alloc::Global;
 use std::mem::replace;
 
-/// A session that is open or closed: a pointer and a mark, which are all zero where it is closed.
+/// A session that is open or closed: a pointer and a mark, which are all zero if it is closed.
 #[repr(C)]
 #[derive(Drop)]
 pub struct UsiSession {

@@ -36,7 +36,7 @@ fn eval_of(number: u32) -> Option<Eval>
     }
 }
 
-/// The number, or the greatest of a byte where it is above that.
+/// The number, or 255 if it is greater.
 fn byte_of(number: u32) -> u8
     ensures { result ≡ min number 255 }
 {

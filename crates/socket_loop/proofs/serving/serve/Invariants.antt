@@ -5,7 +5,7 @@ use Rattle.socket_loop.specs.Turns.{Fits}
 use Rattle.socket_loop.specs.Serving.{AreTurns}
 use Rattle.socket_loop.proofs.serving.serve.Given as goal
 
--- so many turns so far, each with a wait after it
+-- the turns made so far, each with a wait after it
 abbrev pub invariant-loop : goal.invariant-loop
 invariant-loop g l = record {
   so_far : AreTurns l.fn.links.slice l.counter
