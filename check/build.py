@@ -41,6 +41,7 @@ USUAL = {
     "static_exchange": 38,
     "mate_search": 75,
     "analogous_moves": 79,
+    "commuting_moves": 20,
     "search_nodes": 150,
     "last_ply": 112,
     "shogi_search": 121,
